@@ -1,0 +1,15 @@
+pub mod Lists
+pub mod Signatures
+pub mod Trees
+pub mod Drafts
+pub mod Order
+pub mod Languages
+pub mod Linearization
+pub mod Charts
+pub mod Readings
+pub mod Faults
+pub mod DraftWalk
+pub mod PhraseWalk
+pub mod Questions
+pub mod Reasons
+pub mod Tables
