@@ -13,3 +13,5 @@ pub mod PhraseWalk
 pub mod Questions
 pub mod Reasons
 pub mod Tables
+pub mod RuleTables
+pub mod Unknown

@@ -1,0 +1,2 @@
+pub mod SmallPort
+pub mod Cases

@@ -1,0 +1,4 @@
+pub mod Membership
+pub mod Codes
+pub mod Enumeration
+pub mod Uniqueness
