@@ -1,0 +1,2 @@
+-- The words that the contracts of a stack cite.
+pub mod Held
