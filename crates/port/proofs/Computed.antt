@@ -16,6 +16,7 @@ use Rattle.grammar.specs.Trees.{Tree}
 use Rattle.std.specs.declared.result.Result.the-variants.{Ok}
 use Rattle.port.specs.Cases.{WorkedCases, Lists, anything}
 use Rattle.port.specs.SmallPort.{port, Q, B}
+use Rattle.items.proofs.Edges.{all-counted}
 use Rattle.readings.proofs.Enumeration.{all-readings, all-readings-full}
 
 -- what the enumeration finds is the full list
@@ -42,6 +43,9 @@ worked-cases = record {
   one-deeper = found _ _ 3 _ _ refl refl;
   two-deeper = found _ _ 4 _ _ refl refl;
   their-codes = (refl, refl);
+  chart-at-two = (_, refl, all-counted Q _ 2);
+  chart-at-three = (_, refl, all-counted Q _ 3);
+  chart-at-four = (_, refl, all-counted Q _ 4);
   repeated = found _ _ 3 _ _ refl refl;
   repeated-codes = (refl, refl);
   repeated-too-deep = found _ _ 2 _ _ refl refl;

@@ -9,6 +9,7 @@ use Rattle.std.specs.shelf.Lists.{All}
 use Rattle.grammar.specs.declared.fault.Layer.the-variants.{Tree as InTree, Phrase as InPhrase}
 use Rattle.grammar.specs.declared.fault.PhraseFault.{PhraseFault}
 use Rattle.grammar.specs.declared.fault.TreeFault.{TreeFault}
+use Rattle.grammar.specs.Charts.{Counts}
 use Rattle.grammar.specs.Drafts.{Draft}
 use Rattle.grammar.specs.Drafts.Draft.{hole}
 use Rattle.grammar.specs.DraftWalk.{draft-walk, depth-check}
@@ -28,6 +29,10 @@ pub record Lists (draft phrase : List ℕ) (d : ℕ) (readings : List Tree) : Ty
   pub draft-read : draft-walk port d draft ≡ Ok drafted
   pub phrase-read : read-phrase phrase ≡ Ok words
   pub full : FullList Q drafted words d readings
+
+-- the bytes of a phrase are read, and its chart in Q has so many items and edges
+abbrev pub Charts : List ℕ → ℕ → ℕ → ℕ → Type 0
+Charts phrase d items edges = (words : Words) × (read-phrase phrase ≡ Ok words) × Counts Q words d items edges
 
 -- the draft's walk refuses the bytes with this number at this place
 abbrev pub RefusesDraft : ℕ → List ℕ → ℕ → ℕ → Type 0
@@ -65,6 +70,10 @@ pub record WorkedCases : Type 0 where
   pub one-deeper : Lists anything hold-three 3 (held berth ∷ held rope ∷ [])
   pub two-deeper : Lists anything hold-three 4 (held berth ∷ held rope ∷ [])
   pub their-codes : (code (held berth) ≡ 0 ∷ 1 ∷ []) × (code (held rope) ≡ 0 ∷ 2 ∷ [])
+  -- the counts of their charts
+  pub chart-at-two : Charts hold-three 2 2 3
+  pub chart-at-three : Charts hold-three 3 3 4
+  pub chart-at-four : Charts hold-three 4 3 5
   -- both uses of a repeated constituent are one tree's
   pub repeated : Lists anything twice 3 (again (held berth) ∷ again (held rope) ∷ [])
   pub repeated-codes : (code (again (held berth)) ≡ 3 ∷ 0 ∷ 1 ∷ []) × (code (again (held rope)) ≡ 3 ∷ 0 ∷ 2 ∷ [])

@@ -1,0 +1,4 @@
+pub mod Distinctness
+pub mod Windows
+pub mod Items
+pub mod Edges
