@@ -9,8 +9,8 @@ use Rattle.std.specs.declared.option.Option.the-variants.{Some, None}
 use Rattle.std.specs.declared.result.Result.{Result}
 use Rattle.std.specs.declared.result.Result.the-variants.{Ok, Err}
 use Rattle.std.specs.Finite.{nth}
-use Rattle.grammar.specs.declared.fault.TreeFault.{TreeFault}
-use Rattle.grammar.specs.declared.fault.TreeFault.the-variants.{DepthOutOfRange, EndsEarly, LeftOver, WrongNode, TooDeep}
+use Rattle.fault.specs.declared.kinds.TreeFault.{TreeFault}
+use Rattle.fault.specs.declared.kinds.TreeFault.the-variants.{DepthOutOfRange, EndsEarly, LeftOver, WrongNode, TooDeep}
 use Rattle.grammar.specs.Drafts.{Draft, Drafts, hole-byte}
 use Rattle.grammar.specs.Drafts.Draft.{hole, built}
 use Rattle.grammar.specs.Drafts.Drafts.{nil, cons}

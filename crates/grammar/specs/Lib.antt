@@ -7,11 +7,9 @@ pub mod Languages
 pub mod Linearization
 pub mod Charts
 pub mod Readings
-pub mod Faults
+pub mod Unknown
 pub mod DraftWalk
 pub mod PhraseWalk
 pub mod Questions
-pub mod Reasons
-pub mod Tables
 pub mod RuleTables
-pub mod Unknown
+pub mod Tables

@@ -8,8 +8,8 @@ use Rattle.std.specs.declared.option.Option.{Option}
 use Rattle.std.specs.declared.option.Option.the-variants.{Some, None}
 use Rattle.std.specs.declared.result.Result.{Result}
 use Rattle.std.specs.declared.result.Result.the-variants.{Ok, Err}
-use Rattle.grammar.specs.declared.fault.PhraseFault.{PhraseFault}
-use Rattle.grammar.specs.declared.fault.PhraseFault.the-variants.{WrongByte, LongWord, TooManyWords}
+use Rattle.fault.specs.declared.kinds.PhraseFault.{PhraseFault}
+use Rattle.fault.specs.declared.kinds.PhraseFault.the-variants.{WrongByte, LongWord, TooManyWords}
 use Rattle.grammar.specs.Languages.{Spelling, Words}
 use Rattle.grammar.specs.Linearization.{blank}
 

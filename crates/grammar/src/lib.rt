@@ -1,6 +1,4 @@
 // The model's shared types: symbols, windows, signatures, the interface of a language, and the refusals of the tree, phrase and chart layers.
-pub mod fault;
 pub mod language;
-pub mod refusal;
 pub mod signature;
 pub mod symbol;

@@ -3,7 +3,8 @@ ghost use mathlib.Core.Path.{_≡_};
 ghost use Prim.Native.Nat.{_≤_};
 ghost use lib.ListN.{length};
 
-mod table;
+mod asking;
+mod making;
 
 // The most functions that a signature has.
 pub const FUNCTIONS: usize = 64;

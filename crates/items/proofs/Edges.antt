@@ -88,11 +88,11 @@ module _ (known : List Item) where
       (pairwise-map Apart Apart (λ js. i ∷ js) (λ x y no-path e. no-path (let h : x ≡ y = cc (e) in h)) rows apart)
       (beside-apart rows apart is (p .1))
       (λ x y hx hy e.
-          let a = map-holds (λ js. i ∷ js) rows x hx in
-          let b = joined-holds (λ k. map (λ js. k ∷ js) rows) is y hy in
-          let c = map-holds (λ js. b .0 ∷ js) rows y (b .2) in
-          let whole : i ∷ a .0 ≡ b .0 ∷ c .0 = sym (a .2) ∙ e ∙ c .2 in
-          all-holds (Apart i) is (p .0) (b .0) (b .1) (let h : i ≡ b .0 = cc (whole) in h))
+      let a = map-holds (λ js. i ∷ js) rows x hx in
+      let b = joined-holds (λ k. map (λ js. k ∷ js) rows) is y hy in
+      let c = map-holds (λ js. b .0 ∷ js) rows y (b .2) in
+      let whole : i ∷ a .0 ≡ b .0 ∷ c .0 = sym (a .2) ∙ e ∙ c .2 in
+      all-holds (Apart i) is (p .0) (b .0) (b .1) (let h : i ≡ b .0 = cc (whole) in h))
 
   rows-apart : Pairwise Apart known → (cs : List ℕ) → Pairwise Apart (item-rows known cs)
   rows-apart p [] = (tt, tt)
@@ -142,9 +142,9 @@ module _ (m : Meaning) (known : List Item) where
       (pairwise-kept Apart (has-rule m) (map (edge n) (item-rows known (f .arguments))) (pairwise-map Apart Apart (edge n) (λ x y no-path e. no-path (ap (λ z. z .arguments) e)) (item-rows known (f .arguments)) (rows-apart known p (f .arguments))))
       (from-apart p fs (suc n))
       (λ x y hx hy e.
-          let a = under-holds n f x hx in
-          let b = from-holds fs (suc n) y hy in
-          omega (arith, a .0, b .3 .0, ap (λ z. z .function) e))
+      let a = under-holds n f x hx in
+      let b = from-holds fs (suc n) y hy in
+      omega (arith, a .0, b .3 .0, ap (λ z. z .function) e))
 
 module _ (m : Meaning) (phrase : Words) (d : ℕ) where
   edge-sound : (e : Edge) → Holds (all-edges m phrase d) e → Edges m phrase d e

@@ -4,23 +4,19 @@ ghost use Rattle.items.specs.Laws.{WindowExists, WindowIsUnique, CountsExist, 
 // Every string of words has a window in every phrase.
 pub fn window_exists()
     ensures { λ _. ⌜ WindowExists ⌝ }
-{
-}
+{}
 
 // It has no other.
 pub fn window_is_unique()
     ensures { λ _. ⌜ WindowIsUnique ⌝ }
-{
-}
+{}
 
 // Every language, phrase and depth has a number of items and a number of edges.
 pub fn counts_exist()
     ensures { λ _. ⌜ CountsExist ⌝ }
-{
-}
+{}
 
 // It has no others.
 pub fn counts_are_unique()
     ensures { λ _. ⌜ CountsAreUnique ⌝ }
-{
-}
+{}

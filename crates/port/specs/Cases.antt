@@ -6,14 +6,14 @@ use lib.Chars.{codes}
 use lib.ListN.{length}
 use Rattle.std.specs.declared.result.Result.the-variants.{Ok, Err}
 use Rattle.std.specs.shelf.Lists.{All}
-use Rattle.grammar.specs.declared.fault.Layer.the-variants.{Tree as InTree, Phrase as InPhrase}
-use Rattle.grammar.specs.declared.fault.PhraseFault.{PhraseFault}
-use Rattle.grammar.specs.declared.fault.TreeFault.{TreeFault}
+use Rattle.fault.specs.declared.kinds.Layer.the-variants.{Tree as InTree, Phrase as InPhrase}
+use Rattle.fault.specs.declared.kinds.PhraseFault.{PhraseFault}
+use Rattle.fault.specs.declared.kinds.TreeFault.{TreeFault}
 use Rattle.grammar.specs.Charts.{Counts}
 use Rattle.grammar.specs.Drafts.{Draft}
 use Rattle.grammar.specs.Drafts.Draft.{hole}
 use Rattle.grammar.specs.DraftWalk.{draft-walk, depth-check}
-use Rattle.grammar.specs.Faults.{tree-refusal, phrase-refusal, refused}
+use Rattle.fault.specs.Refusals.{tree-refusal, phrase-refusal, refuse}
 use Rattle.grammar.specs.Languages.{Meaning, Words}
 use Rattle.grammar.specs.Linearization.{Linearizes, spaced}
 use Rattle.grammar.specs.PhraseWalk.{read-phrase}
@@ -37,14 +37,14 @@ Charts phrase d items edges = (words : Words) × (read-phrase phrase ≡ Ok word
 -- the draft's walk refuses the bytes with this number at this place
 abbrev pub RefusesDraft : ℕ → List ℕ → ℕ → ℕ → Type 0
 RefusesDraft d bytes number place =
-    (fault : TreeFault) × (draft-walk port d bytes ≡ Err fault) × (tree-refusal fault ≡ refused number InTree place)
+    (fault : TreeFault) × (draft-walk port d bytes ≡ Err fault) × (tree-refusal fault ≡ refuse number InTree place)
 
 abbrev pub RefusesDepth : ℕ → ℕ → ℕ → Type 0
-RefusesDepth d number place = (fault : TreeFault) × (depth-check d ≡ Err fault) × (tree-refusal fault ≡ refused number InTree place)
+RefusesDepth d number place = (fault : TreeFault) × (depth-check d ≡ Err fault) × (tree-refusal fault ≡ refuse number InTree place)
 
 abbrev pub RefusesPhrase : List ℕ → ℕ → ℕ → Type 0
 RefusesPhrase bytes number place =
-    (fault : PhraseFault) × (read-phrase bytes ≡ Err fault) × (phrase-refusal fault ≡ refused number InPhrase place)
+    (fault : PhraseFault) × (read-phrase bytes ≡ Err fault) × (phrase-refusal fault ≡ refuse number InPhrase place)
 
 -- the phrase can be read, and its first word that the language does not have is the one of this number
 abbrev pub HasUnknown : Meaning → List ℕ → ℕ → Type 0

@@ -1,4 +1,4 @@
-// The refusals of the tree, phrase and chart layers: enums by layer, each case with its number, layer and place.
+// What can be refused: the faults of the tree, phrase and chart layers, and what every refusal says.
 
 // The part of the panel that refuses.
 #[derive(Clone, Copy, Debug, PartialEq, Eq)]
@@ -8,6 +8,14 @@ pub enum Layer {
     Phrase,
     Chart,
     Session,
+}
+
+// What every refusal says: its number, the layer that refuses, and a place counted from 0.
+#[derive(Clone, Copy, Debug, PartialEq, Eq)]
+pub struct Refusal {
+    pub number: u8,
+    pub layer: Layer,
+    pub place: usize,
 }
 
 // What is wrong with a depth, a signature or a draft.

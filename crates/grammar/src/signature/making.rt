@@ -1,16 +1,14 @@
-// Making a signature's table, and asking it for a function.
+// Making a signature's table.
 ghost use mathlib.Core.Path.{_≡_};
-ghost use mathlib.Core.Bool.{Bool, true, false, cond};
+ghost use mathlib.Core.Bool.{cond};
 ghost use mathlib.Core.List.{[], _∷_, _++_};
-ghost use Prim.Native.Nat.{_<_, _≤_};
 ghost use lib.Dec.{ltb};
 ghost use lib.ListN.{length};
-ghost use Rattle.std.specs.Finite.{nth};
 ghost use Rattle.grammar.specs.Tables.{listed, signature-of};
-use crate::signature::Arguments;
-use crate::signature::FUNCTIONS;
-use crate::signature::FunctionType;
-use crate::signature::SignatureTable;
+use super::Arguments;
+use super::FUNCTIONS;
+use super::FunctionType;
+use super::SignatureTable;
 
 impl SignatureTable {
     // A signature that has no functions yet.
@@ -31,7 +29,7 @@ impl SignatureTable {
         }
     }
 
-    // One function more, under the next number; false where there are 64 already.
+    // One function more, under the next number; false, and nothing changed, where there are 64 already.
     pub fn add(&mut self, function: FunctionType) -> bool
         ensures test { λ r. ⌜ r ≡ ltb (length (listed (now (self .entry)))) 64 ⌝ }
         ensures functions { λ r. ⌜ listed (now (self .exit)) ≡ cond r (listed (now (self .entry)) ++ function ∷ []) (listed (now (self .entry))) ⌝ }
@@ -44,36 +42,5 @@ impl SignatureTable {
         self.functions[self.count] = function;
         self.count += 1;
         true
-    }
-
-    pub fn categories(&self) -> u8
-        ensures { λ r. ⌜ r ≡ signature-of (now (self .entry)) .categories ⌝ }
-    {
-        self.categories
-    }
-
-    pub fn start(&self) -> u8
-        ensures { λ r. ⌜ r ≡ signature-of (now (self .entry)) .start ⌝ }
-    {
-        self.start
-    }
-
-    // How many functions there are.
-    pub fn len(&self) -> usize
-        ensures { λ r. ⌜ r ≡ length (listed (now (self .entry))) ⌝ }
-    {
-        self.count
-    }
-
-    // The type of the function of that number, if there is one.
-    pub fn function(&self, number: u8) -> Option<FunctionType>
-        ensures { λ r. ⌜ r ≡ nth (listed (now (self .entry))) number ⌝ }
-    {
-        let place = number as usize;
-        if place < self.count {
-            Some(self.functions[place])
-        } else {
-            None
-        }
     }
 }

@@ -3,17 +3,17 @@ use mathlib.Core.List.{List, _++_}
 use Prim.Native.Nat.{ℕ}
 use lib.Chars.{codes}
 use Rattle.std.specs.Written.{decimal}
-use Rattle.grammar.specs.declared.fault.ChartFault.{ChartFault}
-use Rattle.grammar.specs.declared.fault.ChartFault.the-variants.{TooLarge, Unread}
-use Rattle.grammar.specs.declared.fault.Layer.{Layer}
-use Rattle.grammar.specs.declared.fault.Layer.the-variants.{Image, Tree, Phrase, Chart, Session}
-use Rattle.grammar.specs.declared.fault.OpenFault.{OpenFault}
-use Rattle.grammar.specs.declared.fault.OpenFault.the-variants.{InTree, InPhrase, InChart}
-use Rattle.grammar.specs.declared.fault.PhraseFault.{PhraseFault}
-use Rattle.grammar.specs.declared.fault.PhraseFault.the-variants.{WrongByte, LongWord, TooManyWords, UnknownWord}
-use Rattle.grammar.specs.declared.fault.TreeFault.{TreeFault}
-use Rattle.grammar.specs.declared.fault.TreeFault.the-variants.{DepthOutOfRange, OtherSignature, EndsEarly, LeftOver, WrongNode, TooDeep}
-use Rattle.grammar.specs.Faults.{Refusal}
+use Rattle.fault.specs.declared.kinds.ChartFault.{ChartFault}
+use Rattle.fault.specs.declared.kinds.ChartFault.the-variants.{TooLarge, Unread}
+use Rattle.fault.specs.declared.kinds.Layer.{Layer}
+use Rattle.fault.specs.declared.kinds.Layer.the-variants.{Image, Tree, Phrase, Chart, Session}
+use Rattle.fault.specs.declared.kinds.OpenFault.{OpenFault}
+use Rattle.fault.specs.declared.kinds.OpenFault.the-variants.{InTree, InPhrase, InChart}
+use Rattle.fault.specs.declared.kinds.PhraseFault.{PhraseFault}
+use Rattle.fault.specs.declared.kinds.PhraseFault.the-variants.{WrongByte, LongWord, TooManyWords, UnknownWord}
+use Rattle.fault.specs.declared.kinds.Refusal.{Refusal}
+use Rattle.fault.specs.declared.kinds.TreeFault.{TreeFault}
+use Rattle.fault.specs.declared.kinds.TreeFault.the-variants.{DepthOutOfRange, OtherSignature, EndsEarly, LeftOver, WrongNode, TooDeep}
 
 abbrev pub layer-name : Layer → List ℕ
 layer-name Image = codes "image"

@@ -1,7 +1,7 @@
 -- In each arm the fault is that variant, and the text is the one that the definition gives it.
 use mathlib.Core.Path.{sym, ap}
-use Rattle.grammar.specs.Reasons.{tree-reason}
-use Rattle.grammar.proofs.refusal.TreeFaultFault.reason.Needs as need
+use Rattle.fault.specs.Reasons.{tree-reason}
+use Rattle.fault.proofs.refusal.TreeFaultFault.reason.Needs as need
 
 pub returns-in-DepthOutOfRange : need.returns-in-DepthOutOfRange
 returns-in-DepthOutOfRange c = sym (ap tree-reason (c .in-DepthOutOfRange .is))
