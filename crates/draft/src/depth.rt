@@ -9,8 +9,8 @@ use grammar::fault::TreeFault;
 #[derive(Clone, Copy)]
 pub struct Depth {
     value: u8,
-    ghost least: { 1 ≤ value },
-    ghost most: { value ≤ 6 },
+    ghost positive: { 1 ≤ value },
+    ghost within: { value ≤ 6 },
 }
 
 impl Depth {

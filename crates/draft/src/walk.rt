@@ -1,13 +1,10 @@
 // The walk that reads a draft from its code: from the front, one byte and then the rest, up to the first fault.
-ghost use mathlib.Core.Path.{_≡_};
 ghost use Prim.Native.Nat.{_+_, _*_, _≤_};
 ghost use lib.ListN.{length};
-ghost use Rattle.std.specs.declared.result.Result.the-variants.{Ok, Err};
-ghost use Rattle.grammar.specs.DraftWalk.{draft-walk, read-draft, read-each};
 ghost use Rattle.grammar.specs.Questions.{argument-list};
 ghost use Rattle.grammar.specs.Tables.{signature-of};
 ghost use Rattle.draft.specs.Nodes.{held};
-ghost use Rattle.draft.specs.Walks.{Keeps, ReadAll, ReadOne, Whole, most};
+ghost use Rattle.draft.specs.Walks.{WalkedAll, WalkedOne, WalkedWhole, most};
 use crate::depth::Depth;
 use crate::nodes::DraftByte;
 use crate::nodes::DraftNode;
@@ -20,11 +17,12 @@ use grammar::signature::SignatureTable;
 const HOLE: u8 = 255;
 
 // The nodes of the draft that the code stands for: one of the signature's start category, no deeper than the depth.
-pub fn read_draft(signature: &SignatureTable, depth: Depth, code: &[u8]) -> Result<DraftNodes, TreeFault>
-    ensures { λ r. ⌜ elim r [
-        | Ok v ↦ Whole (signature-of (now (signature .entry))) (depth .value) (now (code .entry)) v
-        | Err fault ↦ draft-walk (signature-of (now (signature .entry))) (depth .value) (now (code .entry)) ≡ Err fault
-    ] ⌝ }
+pub fn read_draft(
+    signature: &SignatureTable,
+    depth: Depth,
+    code: &[u8],
+) -> Result<DraftNodes, TreeFault>
+    ensures { λ r. ⌜ WalkedWhole (signature-of (now (signature .entry))) (depth .value) (now (code .entry)) r ⌝ }
 {
     let mut nodes = DraftNodes::new();
     match nodes.read_one(signature, signature.start(), depth.get(), code)? {
@@ -44,10 +42,7 @@ impl DraftNodes {
         code: &'a [u8],
     ) -> Result<&'a [u8], TreeFault>
         requires { ⌜ length (held (now self)) + most left ≤ 364 ⌝ }
-        ensures { λ r. ⌜ elim r [
-            | Ok rest ↦ ReadOne (signature-of (now (signature .entry))) left category (held (now (self .entry))) (now (code .entry)) (held (now (self .exit))) (now rest)
-            | Err fault ↦ (read-draft (signature-of (now (signature .entry))) left category (length (held (now (self .entry)))) (now (code .entry)) ≡ Err fault) × Keeps (held (now (self .entry))) (held (now (self .exit)))
-        ] ⌝ }
+        ensures { λ r. ⌜ WalkedOne (signature-of (now (signature .entry))) left category (now (code .entry)) (held (now (self .entry))) (held (now (self .exit))) r ⌝ }
     {
         let [root, rest @ ..] = code else {
             return Err(TreeFault::EndsEarly { length: self.len() });
@@ -85,10 +80,7 @@ impl DraftNodes {
         code: &'a [u8],
     ) -> Result<&'a [u8], TreeFault>
         requires { ⌜ length (held (now self)) + length (argument-list arguments) * most left ≤ 364 ⌝ }
-        ensures { λ r. ⌜ elim r [
-            | Ok rest ↦ ReadAll (signature-of (now (signature .entry))) left (argument-list arguments) (held (now (self .entry))) (now (code .entry)) (held (now (self .exit))) (now rest)
-            | Err fault ↦ (read-each (read-draft (signature-of (now (signature .entry))) left) (argument-list arguments) (length (held (now (self .entry)))) (now (code .entry)) ≡ Err fault) × Keeps (held (now (self .entry))) (held (now (self .exit)))
-        ] ⌝ }
+        ensures { λ r. ⌜ WalkedAll (signature-of (now (signature .entry))) left (argument-list arguments) (now (code .entry)) (held (now (self .entry))) (held (now (self .exit))) r ⌝ }
     {
         match arguments {
             Arguments::Zero => Ok(code),
