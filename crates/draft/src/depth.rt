@@ -14,6 +14,7 @@ pub struct Depth {
 }
 
 impl Depth {
+    // The depth of that number, if it is one.
     pub fn new(depth: u8) -> Result<Depth, TreeFault>
         ensures { λ r. ⌜ elim r [ Ok d ↦ depth-check depth ≡ Ok (d .value) | Err fault ↦ depth-check depth ≡ Err fault ] ⌝ }
     {
@@ -24,6 +25,7 @@ impl Depth {
         }
     }
 
+    // The depth as a number.
     pub fn get(self) -> u8
         ensures { λ r. ⌜ r ≡ self .value ⌝ }
     {

@@ -3,7 +3,8 @@ ghost use mathlib.Core.Path.{_≡_};
 ghost use Prim.Native.Nat.{_≤_};
 ghost use lib.ListN.{length};
 
-mod list;
+mod ask;
+mod fill;
 
 // What stands at a node: nothing yet, or the function of that number.
 #[derive(Clone, Copy, Debug, PartialEq, Eq)]

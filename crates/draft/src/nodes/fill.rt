@@ -1,9 +1,8 @@
-// Making a list of nodes, and asking it for a node.
+// Making a list of nodes, and adding to it.
 ghost use mathlib.Core.Path.{_≡_};
 ghost use mathlib.Core.List.{[], _∷_, _++_};
 ghost use Prim.Native.Nat.{_<_};
 ghost use lib.ListN.{length};
-ghost use Rattle.std.specs.Finite.{nth};
 ghost use Rattle.draft.specs.Nodes.{held};
 use crate::nodes::DraftByte;
 use crate::nodes::DraftNode;
@@ -32,23 +31,5 @@ impl DraftNodes {
     {
         self.nodes[self.count] = node;
         self.count += 1;
-    }
-
-    // How many nodes there are.
-    pub fn len(&self) -> usize
-        ensures { λ r. ⌜ r ≡ length (held (now (self .entry))) ⌝ }
-    {
-        self.count
-    }
-
-    // The node at that place, if there is one.
-    pub fn node(&self, index: usize) -> Option<DraftNode>
-        ensures { λ r. ⌜ r ≡ nth (held (now (self .entry))) index ⌝ }
-    {
-        if index < self.count {
-            Some(self.nodes[index])
-        } else {
-            None
-        }
     }
 }
