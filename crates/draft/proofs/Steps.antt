@@ -14,8 +14,8 @@ use Rattle.std.specs.Finite.{nth}
 use Rattle.std.specs.Options.{mapped}
 use Rattle.std.proofs.shelf.Lists.{append-nil, append-assoc, drop-more, length-push, take-rest}
 use Rattle.std.proofs.shelf.Tests.{eq-eqb, ne-eqb}
-use Rattle.grammar.specs.declared.fault.TreeFault.{TreeFault}
-use Rattle.grammar.specs.declared.fault.TreeFault.the-variants.{WrongNode}
+use Rattle.fault.specs.declared.kinds.TreeFault.{TreeFault}
+use Rattle.fault.specs.declared.kinds.TreeFault.the-variants.{WrongNode}
 use Rattle.grammar.specs.declared.signature.Arguments.{Arguments}
 use Rattle.grammar.specs.declared.signature.Arguments.the-variants.{Zero, One, Two, Three}
 use Rattle.grammar.specs.declared.signature.FunctionType.{FunctionType}

@@ -6,10 +6,10 @@ use Prim.Native.Nat.{ℕ, zero, suc, _+_, _*_, _≤_}
 use lib.ListN.{length}
 use Rattle.std.specs.declared.result.Result.{Result}
 use Rattle.std.specs.declared.result.Result.the-variants.{Ok, Err}
-use Rattle.grammar.specs.declared.fault.TreeFault.{TreeFault}
+use Rattle.fault.specs.declared.kinds.TreeFault.{TreeFault}
 use Rattle.grammar.specs.Drafts.{Draft}
 use Rattle.grammar.specs.DraftWalk.{Taken, taken, read-draft, read-each, draft-walk}
-use Rattle.grammar.specs.Faults.{tree-refusal}
+use Rattle.fault.specs.Refusals.{tree-refusal}
 use Rattle.grammar.specs.Signatures.{Signature}
 use Rattle.draft.specs.declared.nodes.DraftNode.{DraftNode}
 use Rattle.draft.specs.declared.nodes.DraftNodes.{DraftNodes}

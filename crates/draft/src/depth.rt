@@ -3,7 +3,7 @@ ghost use mathlib.Core.Path.{_≡_};
 ghost use Prim.Native.Nat.{_≤_};
 ghost use Rattle.std.specs.declared.result.Result.the-variants.{Ok, Err};
 ghost use Rattle.grammar.specs.DraftWalk.{depth-check};
-use grammar::fault::TreeFault;
+use fault::kinds::TreeFault;
 
 // A depth is 1 to 6.
 #[derive(Clone, Copy)]

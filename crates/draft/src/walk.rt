@@ -9,7 +9,7 @@ use crate::depth::Depth;
 use crate::nodes::DraftByte;
 use crate::nodes::DraftNode;
 use crate::nodes::DraftNodes;
-use grammar::fault::TreeFault;
+use fault::kinds::TreeFault;
 use grammar::signature::Arguments;
 use grammar::signature::SignatureTable;
 
