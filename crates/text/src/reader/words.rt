@@ -8,9 +8,10 @@ use crate::reader::PhraseReader;
 use crate::reader::PhraseWord;
 use grammar::fault::PhraseFault;
 
-// The most words that a phrase has, and the most bytes that a word has.
+// The most words that a phrase has.
 const MOST_WORDS: usize = 32;
 
+// The most bytes that a word has.
 const LONGEST_WORD: usize = 24;
 
 // What a byte can be in a phrase.
