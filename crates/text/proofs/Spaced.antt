@@ -1,5 +1,6 @@
 -- Words joined by single blanks: one word more at the end, and the words of a slice up to a place.
 use mathlib.Core.Path.{_≡_, refl, sym, ap, subst, _∙_}
+use mathlib.Core.Bool.{Bool, true, false, cond}
 use mathlib.Core.List.{List, [], _∷_, _++_, map, append-assoc, map-append}
 use Prim.Native.Nat.{ℕ, _+_, _≤_, _<_}
 use native.Mathlib.Omega.{arith}
@@ -8,16 +9,15 @@ use lib.ListN.{length, getD, take, drop}
 use Rattle.std.proofs.shelf.Lists.{length-append, map-more, take-append-drop}
 use Rattle.grammar.specs.Languages.{Spelling, Words}
 use Rattle.grammar.specs.Linearization.{blank, spaced}
-use Rattle.text.specs.PutDown.{spellings}
+use Rattle.text.specs.PutDown.{some-words, spellings}
 
 -- the blank that stands between these words and the next
 abbrev pub gap-after : Words → List ℕ
-gap-after [] = []
-gap-after (w ∷ ws) = blank ∷ []
+gap-after ws = cond (some-words ws) (blank ∷ []) []
 
-pub gap-more : (ws : Words) (w : Spelling) → gap-after (ws ++ w ∷ []) ≡ blank ∷ []
-gap-more [] w = refl
-gap-more (v ∷ ws) w = refl
+pub some-more : (ws : Words) (w : Spelling) → some-words (ws ++ w ∷ []) ≡ true
+some-more [] w = refl
+some-more (v ∷ ws) w = refl
 
 pub spaced-more : (ws : Words) (w : Spelling) → spaced (ws ++ w ∷ []) ≡ spaced ws ++ (gap-after ws ++ w)
 spaced-more [] w = refl
@@ -38,7 +38,6 @@ no-word = record { ptr = (0, 0); name = 0; now = [] }
 
 -- the words of a slice up to place i, and the one there
 module _ (ws : List (RefT (List ℕ))) (i : ℕ) where
-
   module _ (within : i < length ws) where
     pub next-words : spellings (take (i + 1) ws) ≡ spellings (take i ws) ++ getD ws i no-word .now ∷ []
     next-words = map-more (λ w. w .now) ws i no-word within
@@ -49,12 +48,12 @@ module _ (ws : List (RefT (List ℕ))) (i : ℕ) where
     pub next-length : length (spaced (spellings (take (i + 1) ws))) ≡ length (spaced (spellings (take i ws))) + length (gap-after (spellings (take i ws))) + length (getD ws i no-word .now)
     next-length = ap length next-text ∙ simp length-append (omega arith)
 
-    pub next-gap : gap-after (spellings (take (i + 1) ws)) ≡ blank ∷ []
-    next-gap = ap gap-after next-words ∙ gap-more (spellings (take i ws)) (getD ws i no-word .now)
+    pub next-some : some-words (spellings (take (i + 1) ws)) ≡ true
+    next-some = ap some-words next-words ∙ some-more (spellings (take i ws)) (getD ws i no-word .now)
 
   pub no-longer : length (spaced (spellings (take i ws))) ≤ length (spaced (spellings ws))
   no-longer =
       let whole : spellings (take i ws) ++ spellings (drop i ws) ≡ spellings ws =
-        sym (map-append (λ w. w .now) (take i ws) (drop i ws)) ∙ ap spellings (take-append-drop i ws) in
+      sym (map-append (λ w. w .now) (take i ws) (drop i ws)) ∙ ap spellings (take-append-drop i ws) in
       let P : Words → Type 0 = λ vs. length (spaced (spellings (take i ws))) ≤ length (spaced vs) in
       subst P whole (spaced-longer (spellings (take i ws)) (spellings (drop i ws)))

@@ -1,6 +1,6 @@
 -- What a word writer puts down in its part, and what a page holds after words are written on it.
 use mathlib.Core.Path.{_≡_}
-use mathlib.Core.Bool.{Bool, true, cond}
+use mathlib.Core.Bool.{Bool, true, false, cond}
 use mathlib.Core.List.{List, [], _∷_, _++_, map}
 use Prim.Native.Nat.{ℕ, _+_, _-_, _^_, _≤_, _<_, min}
 use denote.Ref.{RefT}
@@ -38,6 +38,10 @@ pub record Full (more : List ℕ) (before after : WordWriter) : Type 0 where
 -- true where the bytes are put down, false where they do not fit
 abbrev pub Puts : List ℕ → Bool → WordWriter → Bool → WordWriter → Type 0
 Puts more started before r after = When r (Grown more started before after) (Full more before after)
+
+abbrev pub some-words : Words → Bool
+some-words [] = false
+some-words (w ∷ ws) = true
 
 -- the words that lie behind references
 abbrev pub spellings : List (RefT (List ℕ)) → Words

@@ -4,6 +4,8 @@ ghost use denote.Ref.{now};
 ghost use lib.ListN.{length};
 
 mod page;
+#[cfg(test)]
+mod tests;
 mod words;
 
 pub use self::page::write_words;

@@ -1,10 +1,12 @@
 // Writing all words of a text on a page at once, or none of them.
 ghost use mathlib.Core.Path.{_≡_};
-ghost use Prim.Native.Nat.{_+_, _^_, _<_};
+ghost use mathlib.Core.Bool.{false};
+ghost use Prim.Native.Nat.{_+_, _^_, _<_, _≤_};
+ghost use denote.Ref.{name};
 ghost use lib.ListN.{length};
 ghost use Rattle.std.specs.Numbers.{Checked};
 ghost use Rattle.grammar.specs.Linearization.{spaced};
-ghost use Rattle.text.specs.PutDown.{spellings, OnPage};
+ghost use Rattle.text.specs.PutDown.{put-down, Grown, some-words, spellings, OnPage};
 use crate::writer::PageFault;
 use crate::writer::WordWriter;
 
@@ -28,6 +30,27 @@ fn text_length(words: &[&[u8]]) -> Option<usize>
     Some(text)
 }
 
+// Writes words that have room with a writer that has begun none yet.
+fn write_all(writer: &mut WordWriter, words: &[&[u8]])
+    requires room { ⌜ now writer .used + length (spaced (spellings (now words))) ≤ length (now (now writer .part)) ⌝ }
+    requires fresh { ⌜ now writer .started ≡ false ⌝ }
+    ensures lender { λ _. ⌜ name (now (writer .exit) .part) ≡ name (now (writer .entry) .part) ⌝ }
+    ensures grown { λ _. ⌜ Grown (spaced (spellings (now (words .entry)))) (some-words (spellings (now (words .entry)))) (now (writer .entry)) (now (writer .exit)) ⌝ }
+{
+    for word in words {
+        writer.write_word(word);
+    }
+}
+
+// Writes words that have room at the front of a lent part of a page.
+fn write_front(part: &mut [u8], words: &[&[u8]])
+    requires { ⌜ length (spaced (spellings (now words))) ≤ length (now part) ⌝ }
+    ensures { λ _. ⌜ now (part .exit) ≡ put-down (now (part .entry)) 0 (spaced (spellings (now (words .entry)))) ⌝ }
+{
+    let mut writer = WordWriter::new(part);
+    write_all(&mut writer, words);
+}
+
 // Writes the words, joined by single blanks, from the start place of the page on, and tells how long they are; a text that does not fit leaves the page as it is.
 pub fn write_words(page: &mut [u8], start: usize, words: &[&[u8]]) -> Result<usize, PageFault>
     ensures { λ r. ⌜ OnPage (spaced (spellings (now (words .entry)))) (now (page .entry)) start r (now (page .exit)) ⌝ }
@@ -38,9 +61,6 @@ pub fn write_words(page: &mut [u8], start: usize, words: &[&[u8]]) -> Result<usi
     if start > page.len() || length > page.len() - start {
         return Err(PageFault { length });
     }
-    let mut writer = WordWriter::new(&mut page[start..]);
-    for word in words {
-        writer.write_word(word);
-    }
+    write_front(&mut page[start..], words);
     Ok(length)
 }
