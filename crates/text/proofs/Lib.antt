@@ -1,0 +1,3 @@
+pub mod Scan
+pub mod Growth
+pub mod Spaced
