@@ -3,10 +3,10 @@ mod calls;
 mod port;
 mod print;
 
+use port::small_port;
 use print::print_call;
 use print::print_draft;
 use print::print_phrase;
-use port::small_port;
 use std::io;
 
 fn main(rt: LibcRuntime) -> io::Result<()> {

@@ -1,8 +1,7 @@
 // The built-in small port: its signature, and the phrases, drafts and calls that the program reads.
 ghost use mathlib.Core.Path.{_≡_};
-ghost use mathlib.Core.List.{[], _∷_};
-ghost use Rattle.grammar.specs.declared.signature.Arguments.the-variants.{Zero, One};
-ghost use Rattle.grammar.specs.Tables.{listed, signature-of};
+ghost use Rattle.grammar.specs.Tables.{signature-of};
+ghost use Rattle.port.specs.SmallPort.{port as written-out};
 use grammar::signature::Arguments;
 use grammar::signature::FunctionType;
 use grammar::signature::SignatureTable;
@@ -41,6 +40,7 @@ pub const CALLS: [(u8, &[u8], &str); 4] = [
 
 // Two categories, messages and places, of which messages are the start; f0 makes a message of a place, f1 and f2 are places, f3 makes a message of a message.
 pub fn small_port() -> SignatureTable
+    ensures { λ r. ⌜ signature-of r ≡ written-out ⌝ }
 {
     let mut table = SignatureTable::new(2, 0);
     table.add(FunctionType {

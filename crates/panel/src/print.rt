@@ -31,7 +31,12 @@ pub fn print_phrase(rt: &LibcRuntime, phrase: &str) -> io::Result<()> {
 }
 
 // A draft's nodes with their categories and depths.
-pub fn print_draft(rt: &LibcRuntime, signature: &SignatureTable, depth: u8, code: &[u8]) -> io::Result<()> {
+pub fn print_draft(
+    rt: &LibcRuntime,
+    signature: &SignatureTable,
+    depth: u8,
+    code: &[u8],
+) -> io::Result<()> {
     println!(rt, "  draft {code:?} at depth {depth}")?;
     let limit = match Depth::new(depth) {
         Ok(limit) => limit,
@@ -46,8 +51,14 @@ pub fn print_draft(rt: &LibcRuntime, signature: &SignatureTable, depth: u8, code
             let category = node.category;
             let at = limit.get().saturating_sub(node.left).saturating_add(1);
             match node.byte {
-                DraftByte::Hole => println!(rt, "    node {place}: a hole of category {category}, depth {at}")?,
-                DraftByte::Function(f) => println!(rt, "    node {place}: f{f} of category {category}, depth {at}")?,
+                DraftByte::Hole => println!(
+                    rt,
+                    "    node {place}: a hole of category {category}, depth {at}"
+                )?,
+                DraftByte::Function(f) => println!(
+                    rt,
+                    "    node {place}: f{f} of category {category}, depth {at}"
+                )?,
             }
         }
     }
@@ -55,7 +66,13 @@ pub fn print_draft(rt: &LibcRuntime, signature: &SignatureTable, depth: u8, code
 }
 
 // What a whole call is found to be.
-pub fn print_call(rt: &LibcRuntime, signature: &SignatureTable, depth: u8, code: &[u8], phrase: &str) -> io::Result<()> {
+pub fn print_call(
+    rt: &LibcRuntime,
+    signature: &SignatureTable,
+    depth: u8,
+    code: &[u8],
+    phrase: &str,
+) -> io::Result<()> {
     println!(rt, "  depth {depth}, draft {code:?}, phrase {phrase:?}")?;
     match check_call(signature, depth, code, phrase.as_bytes()) {
         Ok((nodes, words)) => println!(rt, "    sound: {nodes} nodes, {words} words"),
