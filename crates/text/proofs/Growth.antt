@@ -1,8 +1,8 @@
 -- How what a word writer has put down grows: by nothing, by one byte, by two texts one after the other, and word by word.
-use mathlib.Core.Path.{_≡_, refl, sym, ap, subst, _∙_}
+use mathlib.Core.Path.{_≡_, sym, ap, subst, _∙_}
 use mathlib.Core.Bool.{Bool, true, false, cond}
 use mathlib.Core.List.{List, [], _∷_, _++_, append-assoc, append-nil}
-use Prim.Native.Nat.{ℕ, suc, _+_, _-_, _≤_, _<_}
+use Prim.Native.Nat.{ℕ, _+_, _-_, _≤_, _<_}
 use native.Mathlib.Nat.{add-zero, zero-add}
 use native.Mathlib.Numerals.{add-one}
 use native.Mathlib.Omega.{arith}
@@ -81,8 +81,8 @@ module _ (first later : List ℕ) {begun : Bool} {before between : WordWriter} (
       record { fits = all .fits; used = all .used; part = all .part; begun = all .begun ∙ one .begun }
 
 -- bytes that fit are put down
-pub put-fits : (more : List ℕ) (started : Bool) (before after : WordWriter) (r : Bool) → Puts more started before r after → before .used + length more ≤ length (before .part .now) → (r ≡ true) × Grown more started before after
-put-fits more started before after true puts fits = (refl, puts)
+pub put-fits : (more : List ℕ) (started : Bool) (before after : WordWriter) (r : Bool) → Puts more started before r after → before .used + length more ≤ length (before .part .now) → Grown more started before after
+put-fits more started before after true puts fits = puts
 put-fits more started before after false puts fits = absurd (omega (arith, puts .full))
 
 -- the words of a slice up to place i are put down, and so is the word there
@@ -95,6 +95,6 @@ grown-word ws i {before = before} {between = between} {after = after} r within r
     let long : length text + length (gap between ++ word) ≤ length (spaced (spellings ws)) =
     simp (← length-append) (subst (λ t. length t ≤ length (spaced (spellings ws))) (sym whole) (no-longer ws (i + 1))) in
     let fits = still-fits text (gap between ++ word) so-far (omega arith) in
-    let grown = grown-more text (gap between ++ word) so-far (put-fits (gap between ++ word) true between after r puts fits .1) in
+    let grown = grown-more text (gap between ++ word) so-far (put-fits (gap between ++ word) true between after r puts fits) in
     subst (λ some. Grown (spaced (spellings (take (i + 1) ws))) some before after) (sym (next-some ws i within))
     (subst (λ t. Grown t true before after) whole grown)

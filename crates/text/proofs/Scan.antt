@@ -1,16 +1,15 @@
 -- The scan of one word: what it keeps from byte to byte, and what the walk does at each kind of byte.
-use mathlib.Core.Path.{_≡_, refl, sym, ap, _∙_}
-use mathlib.Core.Logic.{_⊎_, inl, inr, ⊎-elim}
-use mathlib.Core.Bool.{Bool, true, false, _&&_, _||_}
+use mathlib.Core.Path.{_≡_, refl, ap, _∙_}
+use mathlib.Core.Logic.{_⊎_, ⊎-elim}
+use mathlib.Core.Bool.{true, false}
 use mathlib.Core.List.{List, [], _∷_, _++_}
 use Prim.Native.Nat.{ℕ, suc, _+_, _-_, _≤_, _<_}
 use native.Mathlib.Numerals.{add-one}
 use native.Mathlib.Omega.{arith}
-use lib.Dec.{leb}
-use lib.ListN.{length, take, drop, getD}
+use lib.ListN.{length, drop, getD}
 use Rattle.std.proofs.shelf.Edits.{length-between, between-more}
 use Rattle.std.proofs.shelf.Lists.{length-drop, at-drop-more, at-drop-all}
-use Rattle.std.proofs.shelf.Tests.{le-leb, lt-leb, and-left, and-right, and-from, or-left, or-right, or-from, cases-eq}
+use Rattle.std.proofs.shelf.Tests.{le-leb, lt-leb, and-right, and-from, or-left, or-right, or-from, cases-eq}
 use Rattle.std.specs.declared.result.Result.the-variants.{Ok}
 use Rattle.fault.specs.declared.kinds.PhraseFault.the-variants.{WrongByte, LongWord, TooManyWords}
 use Rattle.grammar.specs.PhraseWalk.{Walk, walk, kind, empty, stopped, finished, hand-out, most-words, longest-word}

@@ -1,7 +1,7 @@
 -- What a phrase reader has left to read, and what each of its answers says of that.
 use mathlib.Core.Path.{_≡_}
 use mathlib.Core.List.{List, []}
-use Prim.Native.Nat.{ℕ, _+_, _-_, _≤_, _<_, suc}
+use Prim.Native.Nat.{ℕ, _+_, _-_, _≤_, _<_}
 use lib.ListN.{length, take, drop}
 use Rattle.std.specs.declared.option.Option.{Option}
 use Rattle.std.specs.declared.option.Option.the-variants.{Some, None}
@@ -43,3 +43,9 @@ Handed phrase before (Ok None) after = (before ≡ finished) × (after ≡ befor
 Handed phrase before (Ok (Some w)) after =
     (before ≡ hand-out (w .place) (w .text .now) after) × (w .text .now ≡ part (w .place) (w .place + length (w .text .now)) phrase)
 Handed phrase before (Err fault) after = (before ≡ stopped fault) × (after ≡ before)
+
+-- how many words were handed out, before and after an answer
+abbrev pub Counted : ℕ → Result (Option PhraseWord) PhraseFault → ℕ → Type 0
+Counted n (Ok None) m = m ≡ n
+Counted n (Ok (Some w)) m = m ≡ n + 1
+Counted n (Err fault) m = m ≡ n

@@ -9,7 +9,7 @@ use Rattle.std.specs.declared.result.Result.{Result}
 use Rattle.std.specs.declared.result.Result.the-variants.{Ok, Err}
 use Rattle.std.specs.Orderings.{When}
 use Rattle.grammar.specs.Languages.{Words}
-use Rattle.grammar.specs.Linearization.{blank, spaced}
+use Rattle.grammar.specs.Linearization.{blank}
 use Rattle.text.specs.declared.writer.PageFault.{PageFault}
 use Rattle.text.specs.declared.writer.WordWriter.{WordWriter}
 
@@ -47,7 +47,7 @@ some-words (w ∷ ws) = true
 abbrev pub spellings : List (RefT (List ℕ)) → Words
 spellings ws = map (λ w. w .now) ws
 
--- the words stand on the page from the start place on, or do not fit it, and every other byte stays; a length past the largest number is told as that
+-- the text stands on the page from the start place on, or does not fit, and every other byte stays; a length that is past the largest number of 64 bits is told as that number
 abbrev pub OnPage : List ℕ → List ℕ → ℕ → Result ℕ PageFault → List ℕ → Type 0
 OnPage text page start (Ok n) after =
     (n ≡ length text) × (start + n ≤ length page) × (after ≡ put-down page start text)

@@ -3,7 +3,7 @@ ghost use mathlib.Core.Path.{_≡_};
 ghost use Prim.Native.Nat.{_<_, _≤_};
 ghost use lib.ListN.{length};
 ghost use Rattle.grammar.specs.PhraseWalk.{kind, phrase-walk};
-ghost use Rattle.text.specs.HandOut.{kind-told, reader-walk, Ended, Handed};
+ghost use Rattle.text.specs.HandOut.{kind-told, reader-walk, Ended, Handed, Counted};
 use crate::reader::PhraseReader;
 use crate::reader::PhraseWord;
 use fault::kinds::PhraseFault;
@@ -66,6 +66,7 @@ impl<'a> PhraseReader<'a> {
     pub fn new(phrase: &'a [u8]) -> PhraseReader<'a>
         ensures phrase { λ r. ⌜ now (r .phrase) ≡ now (phrase .entry) ⌝ }
         ensures walk { λ r. ⌜ reader-walk r ≡ phrase-walk (now (phrase .entry)) ⌝ }
+        ensures counted { λ r. ⌜ r .words ≡ 0 ⌝ }
     {
         PhraseReader {
             phrase,
@@ -78,6 +79,7 @@ impl<'a> PhraseReader<'a> {
     pub fn next_word(&mut self) -> Result<Option<PhraseWord<'a>>, PhraseFault>
         ensures phrase { λ _. ⌜ now (now (self .exit) .phrase) ≡ now (now (self .entry) .phrase) ⌝ }
         ensures handed { λ r. ⌜ Handed (now (now (self .entry) .phrase)) (reader-walk (now (self .entry))) r (reader-walk (now (self .exit))) ⌝ }
+        ensures counted { λ r. ⌜ Counted (now (self .entry) .words) r (now (self .exit) .words) ⌝ }
     {
         let phrase = self.phrase;
         let place = self.place;

@@ -1,6 +1,6 @@
 // Putting words down one after the other, with a blank between two words.
 ghost use mathlib.Core.Path.{_≡_};
-ghost use mathlib.Core.Bool.{true, false};
+ghost use mathlib.Core.Bool.{true};
 ghost use mathlib.Core.List.{[], _∷_, _++_};
 ghost use Prim.Native.Nat.{_+_, _≤_};
 ghost use denote.Ref.{name};
@@ -10,27 +10,6 @@ ghost use Rattle.text.specs.PutDown.{gap, Puts, Grown};
 use crate::writer::WordWriter;
 
 impl<'a> WordWriter<'a> {
-    // A writer at the front of the part.
-    pub fn new(part: &'a mut [u8]) -> WordWriter<'a>
-        ensures part { λ r. ⌜ now (r .part) ≡ now (part .entry) ⌝ }
-        ensures lender { λ r. ⌜ name (r .part) ≡ name (part .entry) ⌝ }
-        ensures used { λ r. ⌜ r .used ≡ 0 ⌝ }
-        ensures started { λ r. ⌜ r .started ≡ false ⌝ }
-    {
-        WordWriter {
-            part,
-            used: 0,
-            started: false,
-        }
-    }
-
-    // How many bytes are written.
-    pub fn used(&self) -> usize
-        ensures { λ r. ⌜ r ≡ now (self .entry) .used ⌝ }
-    {
-        self.used
-    }
-
     // One byte more of the word that was begun; false, and nothing changed, where the part is full.
     pub fn put(&mut self, byte: u8) -> bool
         ensures lender { λ _. ⌜ name (now (self .exit) .part) ≡ name (now (self .entry) .part) ⌝ }

@@ -1,3 +1,4 @@
+-- The scan of a word keeps what `Scanning` says, and comes nearer to the end of the phrase.
 use Prim.Native.Nat.{_-_}
 use lib.ListN.{length}
 use Rattle.text.proofs.Scan.{Scanning}

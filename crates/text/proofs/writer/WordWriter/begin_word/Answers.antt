@@ -1,3 +1,4 @@
+-- The first word begins with nothing before it.
 use mathlib.Core.Path.{refl}
 use mathlib.Core.Bool.{true}
 use Rattle.text.proofs.Growth.{grown-none}

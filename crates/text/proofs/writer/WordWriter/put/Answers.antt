@@ -1,3 +1,4 @@
+-- Where the part is not full, one byte is put down.
 use mathlib.Core.Path.{refl}
 use Prim.Native.Nat.{_<_}
 use native.Mathlib.Omega.{arith}

@@ -1,8 +1,9 @@
-use mathlib.Core.Path.{_≡_, refl, subst, _∙_}
+-- Each byte is put down, since all of them have room.
+use mathlib.Core.Path.{refl, subst, _∙_}
 use mathlib.Core.List.{List, [], _∷_}
-use Prim.Native.Nat.{ℕ, _+_, _≤_}
+use Prim.Native.Nat.{ℕ}
 use native.Mathlib.Omega.{arith}
-use lib.ListN.{length, take, getD}
+use lib.ListN.{take, getD}
 use Rattle.std.proofs.shelf.Lists.{take-all, take-more, length-take-le}
 use Rattle.text.specs.PutDown.{Grown}
 use Rattle.text.proofs.Growth.{grown-none, grown-on, still-fits, put-fits}
@@ -20,7 +21,7 @@ loop-byte-again c =
     let next : List ℕ = getD bytes i 0 ∷ [] in
     let long = length-take-le i bytes (omega arith) in
     let room = still-fits (take i bytes) next so-far (omega arith) in
-    let put = put-fits next _ _ _ _ (c .put .ensures .puts) room .1 in
+    let put = put-fits next _ _ _ _ (c .put .ensures .puts) room in
     (rw (take-more bytes i 0 (omega arith)) (grown-on (take i bytes) next so-far put), c .put .ensures .lender ∙ c .loop-byte .inv .1)
 
 pub returns : need.returns

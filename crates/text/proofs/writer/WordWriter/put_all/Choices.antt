@@ -1,3 +1,4 @@
+-- The bytes so far are put down, and the writer writes on the same part.
 use mathlib.Core.Path.{_≡_}
 use lib.ListN.{take}
 use Rattle.text.specs.PutDown.{Grown}

@@ -1,5 +1,5 @@
+-- The gap and the word have room, and are put down one after the other.
 use mathlib.Core.Path.{sym, _∙_}
-use native.Mathlib.Omega.{arith}
 use Rattle.std.proofs.shelf.Tests.{leb-true}
 use Rattle.text.specs.PutDown.{gap}
 use Rattle.text.proofs.Growth.{grown-on, still-fits}

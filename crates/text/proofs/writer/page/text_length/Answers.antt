@@ -1,4 +1,5 @@
-use mathlib.Core.Path.{_≡_, sym, ap}
+-- One word more makes the text longer by the gap and the word; past the largest number it stays past.
+use mathlib.Core.Path.{_≡_, ap}
 use mathlib.Core.Bool.{cond}
 use mathlib.Core.List.{[], _∷_}
 use Prim.Native.Nat.{_+_}
@@ -22,7 +23,8 @@ loop-word-again c =
     let ws = c .args .words .now in
     let i = c .loop-word .word-index in
     let told = c .in-Continue-text .ensures tt in
-    (omega (arith, told .0, told .1), omega (arith, next-length ws i (omega arith), told .1), sym (ap (λ some. length (cond some (blank ∷ []) [])) (next-some ws i (omega arith))))
+    let one = ap (λ some. length (cond some (blank ∷ []) [])) (next-some ws i (omega arith)) in
+    (omega (arith, told .0, told .1), omega (arith, next-length ws i (omega arith), told .1), omega (arith, one))
 
 pub returns : need.returns
 returns c =

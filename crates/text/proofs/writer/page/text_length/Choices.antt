@@ -1,3 +1,4 @@
+-- The length so far is that of the words so far, and so is the gap to the next word.
 use mathlib.Core.Path.{_≡_}
 use Prim.Native.Nat.{_^_, _<_}
 use lib.ListN.{length, take}

@@ -1,3 +1,4 @@
+-- Each turn writes one word more, which fits since all words do.
 use mathlib.Core.Path.{refl, subst, _∙_}
 use mathlib.Core.Bool.{false}
 use mathlib.Core.List.{List}

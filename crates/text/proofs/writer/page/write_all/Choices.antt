@@ -1,3 +1,4 @@
+-- The words so far are written, and the writer writes on the same part.
 use mathlib.Core.Path.{_≡_}
 use lib.ListN.{take}
 use Rattle.grammar.specs.Linearization.{spaced}

@@ -1,3 +1,4 @@
+-- What was written at the front of the lent part stands on the page from the start place on.
 use native.Mathlib.Omega.{arith}
 use Rattle.grammar.specs.Linearization.{spaced}
 use Rattle.text.specs.PutDown.{spellings}
