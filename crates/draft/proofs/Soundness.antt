@@ -2,7 +2,7 @@
 use mathlib.Core.Path.{_≡_, refl, sym, ap, subst, _∙_}
 use mathlib.Core.List.{List, [], _∷_, _++_}
 use mathlib.Core.Logic.{⊎-elim}
-use Prim.Native.Nat.{ℕ, zero, suc, _+_, _-_, _≤_}
+use Prim.Native.Nat.{ℕ, zero, suc, _≤_}
 use native.Mathlib.Nat.{max-le}
 use native.Mathlib.Omega.{arith}
 use lib.Dec.{eqb}
@@ -18,7 +18,7 @@ use Rattle.grammar.specs.declared.fault.TreeFault.the-variants.{LeftOver}
 use Rattle.grammar.specs.Drafts.{Draft, Drafts, DraftOf, DraftsOf, draft-code, draft-codes, draft-depth, deepest-draft, hole-byte}
 use Rattle.grammar.specs.Drafts.Draft.{hole, built}
 use Rattle.grammar.specs.Drafts.Drafts.{nil, cons}
-use Rattle.grammar.specs.DraftWalk.{Root, Taken, taken, function-root, root, read-draft, read-each, whole-draft, draft-walk}
+use Rattle.grammar.specs.DraftWalk.{Root, Taken, taken, function-root, root, read-draft, read-each, draft-walk}
 use Rattle.grammar.specs.DraftWalk.Root.{open-place, function, wrong}
 use Rattle.grammar.specs.Signatures.{Function, Signature}
 use Rattle.draft.proofs.Steps.{at-hole, at-wrong}
@@ -27,10 +27,10 @@ use Rattle.draft.proofs.Steps.{at-hole, at-wrong}
 impossible : {P : Type 0} → _≡_ {A = ℕ} 0 1 → P
 impossible z = absurd (omega arith)
 
--- the byte of an open place is the hole's, and the function of a byte is the signature's and has the category as its result
-open-is-hole : (c : ℕ) (o : Option Function) → function-root c o ≡ open-place → ⊥
-open-is-hole c None h = impossible (cc)
-open-is-hole c (Some f) h =
+-- only the hole's byte makes an open place, and the function of a byte is the signature's and has the category as its result
+never-open : (c : ℕ) (o : Option Function) → function-root c o ≡ open-place → ⊥
+never-open c None h = impossible (cc)
+never-open c (Some f) h =
     ⊎-elim
     (λ e. let g = cond-true _ (function f) wrong e in impossible (cc))
     (λ e. let g = cond-false _ (function f) wrong e in impossible (cc))
@@ -40,7 +40,7 @@ pub hole-from-root : (s : Signature) (c b : ℕ) → root s c b ≡ open-place �
 hole-from-root s c b h =
     ⊎-elim
     (λ e. eqb-true b hole-byte e)
-    (λ e. absurd (open-is-hole c (nth (s .functions) b) (sym (cond-false _ open-place (function-root c (nth (s .functions) b)) e) ∙ h)))
+    (λ e. absurd (never-open c (nth (s .functions) b) (sym (cond-false _ open-place (function-root c (nth (s .functions) b)) e) ∙ h)))
     (cases-bool (eqb b hole-byte))
 
 function-from-option : (c : ℕ) (o : Option Function) (f : Function) → function-root c o ≡ function f → (o ≡ Some f) × (f .result ≡ c)
