@@ -2,7 +2,7 @@
 use denote.Ref.{RefT, now}
 use mathlib.Core.Path.{_≡_, refl, sym, ap, subst, _∙_}
 use mathlib.Core.List.{List, [], _∷_, _++_, map}
-use Prim.Native.Nat.{ℕ, zero, suc, _+_, _-_, _*_, _≤_, _<_}
+use Prim.Native.Nat.{ℕ, zero, suc, _+_, _-_, _*_, _≤_}
 use native.Mathlib.Nat.{mul-le-mul-right, suc-mul}
 use native.Mathlib.Omega.{arith}
 use lib.ListN.{length, getD, take, drop}
@@ -20,10 +20,10 @@ use Rattle.grammar.specs.declared.signature.Arguments.{Arguments}
 use Rattle.grammar.specs.declared.signature.Arguments.the-variants.{Zero, One, Two, Three}
 use Rattle.grammar.specs.declared.signature.FunctionType.{FunctionType}
 use Rattle.grammar.specs.declared.signature.SignatureTable.{SignatureTable}
-use Rattle.grammar.specs.Drafts.{Draft, Drafts, hole-byte}
+use Rattle.grammar.specs.Drafts.{Drafts, hole-byte}
 use Rattle.grammar.specs.Drafts.Draft.{hole, built}
 use Rattle.grammar.specs.Drafts.Drafts.{nil, cons}
-use Rattle.grammar.specs.DraftWalk.{Taken, taken, Root, root, read-draft, read-each}
+use Rattle.grammar.specs.DraftWalk.{Taken, taken, root, read-draft, read-each}
 use Rattle.grammar.specs.DraftWalk.Root.{open-place, function, wrong}
 use Rattle.grammar.specs.Questions.{argument-list}
 use Rattle.grammar.specs.Signatures.{Function, Signature}
@@ -31,7 +31,7 @@ use Rattle.grammar.specs.Tables.{typed, listed, signature-of}
 use Rattle.draft.specs.declared.nodes.DraftByte.the-variants.{Hole, Function as Of}
 use Rattle.draft.specs.declared.nodes.DraftNode.{DraftNode}
 use Rattle.draft.specs.Nodes.{argument-categories, placed, draft-nodes, drafts-nodes}
-use Rattle.draft.specs.Walks.{most, Took, Met, Walked, WalkedOne, WalkedAll}
+use Rattle.draft.specs.Walks.{most, Took, Met, WalkedOne, WalkedAll}
 
 -- a draft that may be deeper has no fewer nodes at most
 pub most-grows : (d k : ℕ) → d ≤ k → most d ≤ most k
@@ -99,8 +99,8 @@ pub one-more : (before after : List DraftNode) (n : DraftNode) → after ≡ bef
 one-more before after n put = let more = length-push before n in let same = ap length put in omega arith
 
 -- a hole is a node of its own
-pub one-hole : (s : Signature) (left c b : ℕ) (bytes rest : List ℕ) (before after : List DraftNode) → 1 ≤ left → bytes ≡ b ∷ rest → b ≡ hole-byte → after ≡ before ++ placed Hole c left ∷ [] → Took (read-draft s left c (length before) bytes) (draft-nodes s left c) (most left) before after rest
-one-hole s left c b bytes rest before after deep e is-hole put =
+pub one-hole : (s : Signature) (left c : ℕ) {b : ℕ} {bytes rest : List ℕ} {before after : List DraftNode} → 1 ≤ left → bytes ≡ b ∷ rest → b ≡ hole-byte → after ≡ before ++ placed Hole c left ∷ [] → Took (read-draft s left c (length before) bytes) (draft-nodes s left c) (most left) before after rest
+one-hole s left c {b} {bytes} {rest} {before} {after} deep e is-hole put =
     let long = one-more before after _ put in
     record {
       value = hole;
@@ -110,8 +110,8 @@ one-hole s left c b bytes rest before after deep e is-hole put =
     }
 
 -- a byte that is neither is at fault, and no node
-pub one-wrong : (s : Signature) (left c b p : ℕ) (bytes rest : List ℕ) (before : List DraftNode) → 1 ≤ left → bytes ≡ b ∷ rest → root s c b ≡ wrong → p ≡ length before → Met (read-draft s left c (length before) bytes) before before (WrongNode p)
-one-wrong s left c b p bytes rest before deep e is here =
+pub one-wrong : (s : Signature) (left c : ℕ) {b p : ℕ} {bytes rest : List ℕ} {before : List DraftNode} → 1 ≤ left → bytes ≡ b ∷ rest → root s c b ≡ wrong → p ≡ length before → Met (read-draft s left c (length before) bytes) before before (WrongNode p)
+one-wrong s left c {b} {p} {bytes} {rest} {before} deep e is here =
     record {
       read = rw e (at-wrong s left c (length before) b rest deep is ∙ ap (λ n. Err (WrongNode n)) (sym here));
       place = here;
@@ -120,8 +120,8 @@ one-wrong s left c b p bytes rest before deep e is here =
     }
 
 -- a function is a node, and then come its arguments
-pub one-built : (s : Signature) (left c b : ℕ) (f : Function) (bytes rest : List ℕ) (before middle after : List DraftNode) (r : Result (RefT (List ℕ)) TreeFault) → 1 ≤ left → bytes ≡ b ∷ rest → root s c b ≡ function f → nth (s .functions) b ≡ Some f → length (f .arguments) ≤ 3 → middle ≡ before ++ placed (Of b) c left ∷ [] → WalkedAll s (left - 1) (f .arguments) rest middle after r → WalkedOne s left c bytes before after r
-one-built s left c b f bytes rest before middle after (Ok last) deep e is at-b three put below =
+pub one-built : (s : Signature) (left c : ℕ) (f : Function) (bytes : List ℕ) (before after : List DraftNode) (r : Result (RefT (List ℕ)) TreeFault) {b : ℕ} {rest : List ℕ} {middle : List DraftNode} → 1 ≤ left → bytes ≡ b ∷ rest → root s c b ≡ function f → nth (s .functions) b ≡ Some f → length (f .arguments) ≤ 3 → middle ≡ before ++ placed (Of b) c left ∷ [] → WalkedAll s (left - 1) (f .arguments) rest middle after r → WalkedOne s left c bytes before after r
+one-built s left c f bytes before after (Ok last) {b} {rest} {middle} deep e is at-b three put below =
     let long = one-more before middle _ put in
     record {
       value = built b (below .value);
@@ -133,7 +133,7 @@ one-built s left c b f bytes rest before middle after (Ok last) deep e is at-b t
           ∙ ap (λ o. before ++ placed (Of b) c left ∷ drafts-nodes s (left - 1) (argument-categories o) (below .value)) (sym at-b);
       few = omega (arith, most-step left deep, mul-le-mul-right (most (left - 1)) three);
     }
-one-built s left c b f bytes rest before middle after (Err fault) deep e is at-b three put below =
+one-built s left c f bytes before after (Err fault) {b} {rest} {middle} deep e is at-b three put below =
     let long = one-more before middle _ put in
     record {
       read = rw e (at-fault-below s left c (length before) b rest f fault deep is (rw (← long) (below .read)));
@@ -147,15 +147,15 @@ all-none : (s : Signature) (left : ℕ) (rest : List ℕ) (before : List DraftNo
 all-none s left rest before = record { value = nil; read = refl; listed = sym (append-nil before); few = omega arith }
 
 -- the first of several drafts, and then the others
-pub all-then : (s : Signature) (left a : ℕ) (others cs bytes rest : List ℕ) (before middle after : List DraftNode) (r : Result (RefT (List ℕ)) TreeFault) → cs ≡ a ∷ others → Took (read-draft s left a (length before) bytes) (draft-nodes s left a) (most left) before middle rest → WalkedAll s left others rest middle after r → WalkedAll s left cs bytes before after r
-all-then s left a others cs bytes rest before middle after (Ok last) e first next =
+pub all-then : (s : Signature) (left a : ℕ) (others bytes : List ℕ) (after : List DraftNode) (r : Result (RefT (List ℕ)) TreeFault) {cs rest : List ℕ} {before middle : List DraftNode} → cs ≡ a ∷ others → Took (read-draft s left a (length before) bytes) (draft-nodes s left a) (most left) before middle rest → WalkedAll s left others rest middle after r → WalkedAll s left cs bytes before after r
+all-then s left a others bytes after (Ok last) {cs} {rest} {before} {middle} e first next =
     rw e record {
       value = cons (first .value) (next .value);
       read = rw (first .read, read-each, next .read);
       listed = next .listed ∙ ap (λ l. l ++ drafts-nodes s left others (next .value)) (first .listed) ∙ append-assoc before _ _;
       few = omega (arith, suc-mul (length others) (most left));
     }
-all-then s left a others cs bytes rest before middle after (Err fault) e first next =
+all-then s left a others bytes after (Err fault) {cs} {rest} {before} {middle} e first next =
     rw e record {
       read = rw (first .read, read-each, next .read);
       place = next .place;
@@ -164,15 +164,15 @@ all-then s left a others cs bytes rest before middle after (Err fault) e first n
     }
 
 -- a fault in the first of several is the fault of them all
-pub all-stops : (s : Signature) (left a : ℕ) (others cs bytes : List ℕ) (before after : List DraftNode) (fault : TreeFault) → cs ≡ a ∷ others → Met (read-draft s left a (length before) bytes) before after fault → Met (read-each (read-draft s left) cs (length before) bytes) before after fault
-all-stops s left a others cs bytes before after fault e first =
+pub all-stops : (s : Signature) (left a : ℕ) (others bytes : List ℕ) {cs : List ℕ} {before after : List DraftNode} {fault : TreeFault} → cs ≡ a ∷ others → Met (read-draft s left a (length before) bytes) before after fault → Met (read-each (read-draft s left) cs (length before) bytes) before after fault
+all-stops s left a others bytes {cs} {before} {after} {fault} e first =
     rw e record { read = rw (first .read, read-each); place = first .place; more = first .more; kept = first .kept }
 
 -- the last draft decides
-pub all-last : (s : Signature) (left a : ℕ) (cs bytes : List ℕ) (before after : List DraftNode) (r : Result (RefT (List ℕ)) TreeFault) → cs ≡ a ∷ [] → WalkedOne s left a bytes before after r → WalkedAll s left cs bytes before after r
-all-last s left a cs bytes before after (Ok last) e first =
-    all-then s left a [] cs bytes (now last) before after after (Ok last) e first (all-none s left (now last) after)
-all-last s left a cs bytes before after (Err fault) e first = all-stops s left a [] cs bytes before after fault e first
+pub all-last : (s : Signature) (left a : ℕ) (bytes : List ℕ) (before after : List DraftNode) (r : Result (RefT (List ℕ)) TreeFault) {cs : List ℕ} → cs ≡ a ∷ [] → WalkedOne s left a bytes before after r → WalkedAll s left cs bytes before after r
+all-last s left a bytes before after (Ok last) {cs} e first =
+    all-then s left a [] bytes after (Ok last) e first (all-none s left (now last) after)
+all-last s left a bytes before after (Err fault) {cs} e first = all-stops s left a [] bytes e first
 
 -- a code that has a byte is that byte and the rest
 pub front : (bytes : List ℕ) → 1 ≤ length bytes → bytes ≡ getD bytes 0 0 ∷ take (length bytes - 1) (drop 1 bytes)
