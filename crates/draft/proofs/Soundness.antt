@@ -13,8 +13,8 @@ use Rattle.std.specs.declared.result.Result.the-variants.{Ok, Err}
 use Rattle.std.specs.Finite.{nth}
 use Rattle.std.proofs.shelf.Lists.{append-assoc, append-nil}
 use Rattle.std.proofs.shelf.Tests.{cases-bool, cond-true, cond-false, eqb-true}
-use Rattle.grammar.specs.declared.fault.TreeFault.{TreeFault}
-use Rattle.grammar.specs.declared.fault.TreeFault.the-variants.{LeftOver}
+use Rattle.fault.specs.declared.kinds.TreeFault.{TreeFault}
+use Rattle.fault.specs.declared.kinds.TreeFault.the-variants.{LeftOver}
 use Rattle.grammar.specs.Drafts.{Draft, Drafts, DraftOf, DraftsOf, draft-code, draft-codes, draft-depth, deepest-draft, hole-byte}
 use Rattle.grammar.specs.Drafts.Draft.{hole, built}
 use Rattle.grammar.specs.Drafts.Drafts.{nil, cons}
