@@ -1,0 +1,4 @@
+pub mod Layout
+pub mod Grammar
+pub mod Check
+pub mod Refusals
