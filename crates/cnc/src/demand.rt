@@ -6,13 +6,13 @@ ghost use Rattle.cnc.specs.Told.{told};
 use crate::kinds::ImageFault;
 
 // The fault, unless the rule is kept.
-pub fn ensure(kept: bool, fault: ImageFault) -> Result<(), ImageFault>
+pub(crate) fn ensure(kept: bool, fault: ImageFault) -> Result<(), ImageFault>
     ensures { λ r. ⌜ told r ≡ first-broken (demand kept fault ∷ []) ⌝ }
 {
     if kept { Ok(()) } else { Err(fault) }
 }
 
-pub fn is_within(low: u8, high: u8, number: u8) -> bool
+pub(crate) fn is_within(low: u8, high: u8, number: u8) -> bool
     ensures { λ r. ⌜ r ≡ within low high number ⌝ }
 {
     low <= number && number <= high

@@ -21,7 +21,7 @@ fn check_dimension(view: &ImageView, category: u8) -> Result<(), ImageFault>
     )
 }
 
-pub fn check_dimensions(view: &ImageView) -> Result<(), ImageFault>
+pub(crate) fn check_dimensions(view: &ImageView) -> Result<(), ImageFault>
     ensures { λ r. ⌜ told r ≡ first-broken (each (categories (image (now (view .entry)))) (dimension-demands (image (now (view .entry))))) ⌝ }
 {
     for category in 0..view.categories() {
@@ -65,7 +65,7 @@ fn check_function(view: &ImageView, function: u8) -> Result<(), ImageFault>
     check_argument(view, function, 2)
 }
 
-pub fn check_functions(view: &ImageView) -> Result<(), ImageFault>
+pub(crate) fn check_functions(view: &ImageView) -> Result<(), ImageFault>
     ensures { λ r. ⌜ told r ≡ first-broken (each (functions (image (now (view .entry)))) (function-demands (image (now (view .entry))))) ⌝ }
 {
     for function in 0..view.functions() {

@@ -18,7 +18,7 @@ fn check_marked(view: &ImageView, index: usize, value: u8) -> Result<(), ImageFa
     )
 }
 
-pub fn check_mark(view: &ImageView) -> Result<(), ImageFault>
+pub(crate) fn check_mark(view: &ImageView) -> Result<(), ImageFault>
     ensures { λ r. ⌜ told r ≡ first-broken (mark-demands (image (now (view .entry)))) ⌝ }
 {
     check_marked(view, 0, b'C')?;
@@ -28,7 +28,7 @@ pub fn check_mark(view: &ImageView) -> Result<(), ImageFault>
     check_marked(view, 4, 0)
 }
 
-pub fn check_head(view: &ImageView) -> Result<(), ImageFault>
+pub(crate) fn check_head(view: &ImageView) -> Result<(), ImageFault>
     ensures { λ r. ⌜ told r ≡ first-broken (head-demands (image (now (view .entry)))) ⌝ }
 {
     let length = view.len();

@@ -8,5 +8,7 @@ pub mod refusal;
 mod rules;
 pub mod shown;
 mod symbols;
+#[cfg(test)]
+mod tests;
 mod view;
 mod words;

@@ -95,7 +95,7 @@ fn check_rule(view: &ImageView, rule: u16) -> Result<(), ImageFault>
     )
 }
 
-pub fn check_rules(view: &ImageView) -> Result<(), ImageFault>
+pub(crate) fn check_rules(view: &ImageView) -> Result<(), ImageFault>
     ensures { λ r. ⌜ told r ≡ first-broken (each (rules (image (now (view .entry)))) (rule-demands (image (now (view .entry))))) ⌝ }
 {
     for rule in 0..view.rules() {

@@ -52,7 +52,7 @@ fn check_uses(view: &ImageView, rule: u16) -> Result<(), ImageFault>
     Ok(())
 }
 
-pub fn check_symbols(view: &ImageView) -> Result<(), ImageFault>
+pub(crate) fn check_symbols(view: &ImageView) -> Result<(), ImageFault>
     ensures { λ r. ⌜ told r ≡ first-broken (each (rules (image (now (view .entry)))) (use-demands (image (now (view .entry))))) ⌝ }
 {
     for rule in 0..view.rules() {

@@ -8,7 +8,7 @@ mod fields;
 
 // The image is not owned, and need not be sound: a byte that is not there reads as 0.
 #[derive(Clone, Copy)]
-pub struct ImageView<'a> {
+pub(crate) struct ImageView<'a> {
     bytes: &'a [u8],
     functions_at: usize,
     words_at: usize,

@@ -53,7 +53,7 @@ fn check_word(view: &ImageView, word: u16) -> Result<(), ImageFault>
     )
 }
 
-pub fn check_words(view: &ImageView) -> Result<(), ImageFault>
+pub(crate) fn check_words(view: &ImageView) -> Result<(), ImageFault>
     requires { ⌜ length (image (now view)) ≡ total (image (now view)) ⌝ }
     ensures { λ r. ⌜ told r ≡ first-broken (each (words (image (now (view .entry)))) (word-demands (image (now (view .entry))))) ⌝ }
 {
