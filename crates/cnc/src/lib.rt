@@ -10,5 +10,5 @@ pub mod shown;
 mod symbols;
 #[cfg(test)]
 mod tests;
-mod view;
+pub mod view;
 mod words;

@@ -5,10 +5,11 @@ ghost use denote.Ref.{now};
 ghost use Rattle.cnc.specs.Layout.{functions-at, words-at, rules-at, symbols-at, spelled-at};
 
 mod fields;
+mod parts;
 
 // The image is not owned, and need not be sound: a byte that is not there reads as 0.
 #[derive(Clone, Copy)]
-pub(crate) struct ImageView<'a> {
+pub struct ImageView<'a> {
     bytes: &'a [u8],
     functions_at: usize,
     words_at: usize,

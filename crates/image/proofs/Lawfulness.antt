@@ -65,7 +65,7 @@ module _ (b : List ℕ) (s : Sound b) where
         argument-range = listing-all (argument b f) (λ c. c < categories b) (arity b f) (argument-below f lt);
       }
 
-  word-long : (w : ℕ) → w < words b → length (spelling b w) ≡ word-length b w
+  pub word-long : (w : ℕ) → w < words b → length (spelling b w) ≡ word-length b w
   word-long w lt =
       let p = s .word-sound w lt in
       length-take-le (word-length b w) (drop (spelled-at b + word-offset b w) b) (omega (arith, length-drop (spelled-at b + word-offset b w) b, p .inside, s .whole))
@@ -90,12 +90,18 @@ module _ (b : List ℕ) (s : Sound b) where
       let q = s .function-sound (rule-function b r) (p .known) in
       leb-true _ _ (sym (cond-true (ltb a (rule-arity b r)) (leb (argument-form b r a) 7) (eqb (argument-form b r a) 0) (lt-ltb a (rule-arity b r) al)) ∙ p .forms a (omega (arith, q .arity-range)))
 
-  sequence-few : (r : ℕ) → r < rules b → (k : ℕ) → k < rule-dimension b r → symbol-count b r k ≤ 8
-  sequence-few r lt k kl =
+  -- a constituent that the result has: at most 8 symbols, within the section
+  constituent-told : (r : ℕ) → r < rules b → (k : ℕ) → k < rule-dimension b r → (leb (symbol-count b r k) 8 && leb (first-symbol b r k + symbol-count b r k) (symbols b)) ≡ true
+  constituent-told r lt k kl =
       let p = s .rule-sound r lt in
       let few = dimension-few r lt in
-      leb-true _ _ (and-parts (leb (symbol-count b r k) 8) (leb (first-symbol b r k + symbol-count b r k) (symbols b))
-      (sym (cond-true (ltb k (rule-dimension b r)) (leb (symbol-count b r k) 8 && leb (first-symbol b r k + symbol-count b r k) (symbols b)) (eqb (first-symbol b r k) 0 && eqb (symbol-count b r k) 0) (lt-ltb k (rule-dimension b r) kl)) ∙ p .constituents k (omega arith)) .0)
+      sym (cond-true (ltb k (rule-dimension b r)) (leb (symbol-count b r k) 8 && leb (first-symbol b r k + symbol-count b r k) (symbols b)) (eqb (first-symbol b r k) 0 && eqb (symbol-count b r k) 0) (lt-ltb k (rule-dimension b r) kl)) ∙ p .constituents k (omega arith)
+
+  sequence-few : (r : ℕ) → r < rules b → (k : ℕ) → k < rule-dimension b r → symbol-count b r k ≤ 8
+  sequence-few r lt k kl = leb-true _ _ (and-parts (leb (symbol-count b r k) 8) (leb (first-symbol b r k + symbol-count b r k) (symbols b)) (constituent-told r lt k kl) .0)
+
+  pub symbols-inside : (r : ℕ) → r < rules b → (k : ℕ) → k < rule-dimension b r → first-symbol b r k + symbol-count b r k ≤ symbols b
+  symbols-inside r lt k kl = leb-true _ _ (and-parts (leb (symbol-count b r k) 8) (leb (first-symbol b r k + symbol-count b r k) (symbols b)) (constituent-told r lt k kl) .1)
 
   entry-lawful : (r : ℕ) → r < rules b → RuleLawful (image-meaning b) (image-function b (rule-function b r)) (rule-entry b r .forms) (rule-entry b r .rule)
   entry-lawful r lt =

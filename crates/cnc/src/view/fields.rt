@@ -24,7 +24,7 @@ fn pair_at(bytes: &[u8], index: usize) -> u16
 
 impl<'a> ImageView<'a> {
     // The sections follow the head one after the other.
-    pub(crate) fn new(bytes: &'a [u8]) -> ImageView<'a>
+    pub fn new(bytes: &'a [u8]) -> ImageView<'a>
         ensures { λ r. ⌜ image r ≡ now (bytes .entry) ⌝ }
     {
         let functions_at = 16 + byte_at(bytes, 5) as usize;
@@ -63,31 +63,31 @@ impl<'a> ImageView<'a> {
         pair_at(self.bytes, index)
     }
 
-    pub(crate) fn categories(&self) -> u8
+    pub fn categories(&self) -> u8
         ensures { λ r. ⌜ r ≡ categories (image (now (self .entry))) ⌝ }
     {
         self.byte(5)
     }
 
-    pub(crate) fn functions(&self) -> u8
+    pub fn functions(&self) -> u8
         ensures { λ r. ⌜ r ≡ functions (image (now (self .entry))) ⌝ }
     {
         self.byte(6)
     }
 
-    pub(crate) fn start(&self) -> u8
+    pub fn start(&self) -> u8
         ensures { λ r. ⌜ r ≡ start (image (now (self .entry))) ⌝ }
     {
         self.byte(7)
     }
 
-    pub(crate) fn words(&self) -> u16
+    pub fn words(&self) -> u16
         ensures { λ r. ⌜ r ≡ words (image (now (self .entry))) ⌝ }
     {
         self.pair(8)
     }
 
-    pub(crate) fn rules(&self) -> u16
+    pub fn rules(&self) -> u16
         ensures { λ r. ⌜ r ≡ rules (image (now (self .entry))) ⌝ }
     {
         self.pair(10)
@@ -113,7 +113,7 @@ impl<'a> ImageView<'a> {
     }
 
     // How many constituents a phrase of the category has.
-    pub(crate) fn dimension(&self, category: u8) -> u8
+    pub fn dimension(&self, category: u8) -> u8
         ensures { λ r. ⌜ r ≡ dimension (image (now (self .entry))) category ⌝ }
     {
         self.byte(16 + category as usize)
@@ -127,20 +127,20 @@ impl<'a> ImageView<'a> {
         self.functions_at + 5 * function as usize
     }
 
-    pub(crate) fn result(&self, function: u8) -> u8
+    pub fn result(&self, function: u8) -> u8
         ensures { λ r. ⌜ r ≡ result (image (now (self .entry))) function ⌝ }
     {
         self.byte(self.function_at(function))
     }
 
-    pub(crate) fn arity(&self, function: u8) -> u8
+    pub fn arity(&self, function: u8) -> u8
         ensures { λ r. ⌜ r ≡ arity (image (now (self .entry))) function ⌝ }
     {
         self.byte(self.function_at(function) + 1)
     }
 
     // The category of an argument.
-    pub(crate) fn argument(&self, function: u8, argument: u16) -> u8
+    pub fn argument(&self, function: u8, argument: u16) -> u8
         ensures { λ r. ⌜ r ≡ argument-of (image (now (self .entry))) function argument ⌝ }
     {
         self.byte(self.function_at(function) + 2 + argument as usize)
@@ -160,7 +160,7 @@ impl<'a> ImageView<'a> {
         self.pair(self.word_at(word))
     }
 
-    pub(crate) fn word_length(&self, word: u16) -> u8
+    pub fn word_length(&self, word: u16) -> u8
         ensures { λ r. ⌜ r ≡ word-length (image (now (self .entry))) word ⌝ }
     {
         self.byte(self.word_at(word) + 2)
@@ -196,21 +196,21 @@ impl<'a> ImageView<'a> {
         self.byte(self.rule_at(rule) + 1 + argument as usize)
     }
 
-    pub(crate) fn result_form(&self, rule: u16) -> u8
+    pub fn result_form(&self, rule: u16) -> u8
         ensures { λ r. ⌜ r ≡ result-form (image (now (self .entry))) rule ⌝ }
     {
         self.byte(self.rule_at(rule) + 4)
     }
 
     // The number of the constituent's first symbol.
-    pub(crate) fn first_symbol(&self, rule: u16, constituent: u8) -> u16
+    pub fn first_symbol(&self, rule: u16, constituent: u8) -> u16
         ensures { λ r. ⌜ r ≡ first-symbol (image (now (self .entry))) rule constituent ⌝ }
     {
         self.pair(self.rule_at(rule) + 5 + 3 * constituent as usize)
     }
 
     // How many symbols the constituent has.
-    pub(crate) fn symbol_count(&self, rule: u16, constituent: u8) -> u8
+    pub fn symbol_count(&self, rule: u16, constituent: u8) -> u8
         ensures { λ r. ⌜ r ≡ symbol-count (image (now (self .entry))) rule constituent ⌝ }
     {
         self.byte(self.rule_at(rule) + 7 + 3 * constituent as usize)
@@ -224,14 +224,14 @@ impl<'a> ImageView<'a> {
     }
 
     // How many constituents the rule's result has.
-    pub(crate) fn rule_dimension(&self, rule: u16) -> u8
+    pub fn rule_dimension(&self, rule: u16) -> u8
         ensures { λ r. ⌜ r ≡ rule-dimension (image (now (self .entry))) rule ⌝ }
     {
         self.dimension(self.result(self.rule_function(rule)))
     }
 
     // The rule's function and three forms, by which the rules are sorted.
-    pub(crate) fn key(&self, rule: u16) -> [u8; 4]
+    pub fn key(&self, rule: u16) -> [u8; 4]
         ensures { λ r. ⌜ r ≡ key (image (now (self .entry))) rule ⌝ }
     {
         let at = self.rule_at(rule);

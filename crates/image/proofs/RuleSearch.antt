@@ -19,7 +19,7 @@ use Rattle.cnc.specs.Layout.{byte, rules, rule-at, rule-function, argument-form
 use Rattle.grammar.specs.Languages.{Rule}
 use Rattle.grammar.specs.Questions.{forms-of, with-first}
 use Rattle.grammar.specs.RuleTables.{Entry, from-table}
-use Rattle.image.proofs.Keys.{rising, rises-not-itself}
+use Rattle.image.proofs.KeyOrder.{rising, rises-not-itself}
 use Rattle.image.proofs.Sound.{Sound, SoundRule}
 
 -- whether an entry is the one for the function and the forms

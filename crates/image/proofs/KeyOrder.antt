@@ -6,9 +6,11 @@ use mathlib.Core.Logic.{_⊎_, inl, inr, ⊎-elim}
 use Prim.Native.Nat.{ℕ, zero, suc, _+_, _-_, _<_, _≤_}
 use native.Mathlib.Omega.{arith}
 use lib.Dec.{eqb, ltb}
+use lib.ListN.{length, take, getD}
 use Rattle.std.proofs.shelf.Tests.{ltb-true, eqb-true, lt-ltb, eq-eqb, and-parts, and-from, or-cases, or-left, or-right, both-ways, false≢true}
 use Rattle.cnc.specs.Check.{rises, key, key-rises}
 use Rattle.cnc.specs.Layout.{rules}
+use Rattle.std.proofs.shelf.Lists.{take-all}
 
 -- the two ways in which a key comes before another
 ways : (x y : ℕ) (xs ys : List ℕ) → rises (x ∷ xs) (y ∷ ys) ≡ true → (x < y) ⊎ ((x ≡ y) × (rises xs ys ≡ true))
@@ -52,3 +54,15 @@ rising b n each i j ij jn = go (apart i j ij)
 
     go : (d : ℕ) × (j ≡ i + suc d) → rises (key b i) (key b j) ≡ true
     go p = subst (λ k. rises (key b i) (key b k) ≡ true) (sym (p .1)) (rising-by b n each i (p .0) (omega (arith, p .1)))
+
+-- keys that agree up to a place and differ there
+pub rises-at : (xs ys : List ℕ) (i : ℕ) → i < length xs → i < length ys → take i xs ≡ take i ys → getD xs i 0 < getD ys i 0 → rises xs ys ≡ true
+rises-at [] ys i xl yl same lt = absurd (omega arith)
+rises-at (x ∷ xs) [] i xl yl same lt = absurd (omega arith)
+rises-at (x ∷ xs) (y ∷ ys) zero xl yl same lt = lower x y xs ys lt
+rises-at (x ∷ xs) (y ∷ ys) (suc i) xl yl same lt =
+    level x y xs ys (let e : x ≡ y = cc in e) (rises-at xs ys i (omega arith) (omega arith) (let e : take i xs ≡ take i ys = cc in e) lt)
+
+-- keys that agree to the end
+pub same-keys : (xs ys : List ℕ) (i : ℕ) → length xs ≤ i → length ys ≤ i → take i xs ≡ take i ys → xs ≡ ys
+same-keys xs ys i xl yl same = sym (take-all i xs xl) ∙ same ∙ take-all i ys yl
