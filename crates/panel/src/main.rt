@@ -1,27 +1,21 @@
-// The panel's program: on the built-in small port it reads phrases and drafts, and prints what it read or why it refused.
+// The panel's program: it prints what an image from a file states, or works on the built-in small port.
+mod builtin;
 mod calls;
-mod port;
+mod file;
 mod print;
+mod samples;
+mod states;
 
-use port::small_port;
-use print::print_call;
-use print::print_draft;
-use print::print_phrase;
-use std::io;
+use builtin::run_builtin;
+use file::print_file;
+use std::env;
+use std::error::AnyError;
 
-fn main(rt: LibcRuntime) -> io::Result<()> {
-    let signature = small_port();
-    println!(rt, "Phrases")?;
-    for phrase in port::PHRASES {
-        print_phrase(&rt, phrase)?;
+fn main(rt: LibcRuntime) -> Result<(), AnyError> {
+    let mut arguments = env::args(&rt)?;
+    let _program = arguments.next();
+    match arguments.next() {
+        Some(path) => print_file(&rt, path.as_str()),
+        None => run_builtin(&rt),
     }
-    println!(rt, "Drafts")?;
-    for (depth, code) in port::DRAFTS {
-        print_draft(&rt, &signature, depth, code)?;
-    }
-    println!(rt, "Calls")?;
-    for (depth, code, phrase) in port::CALLS {
-        print_call(&rt, &signature, depth, code, phrase)?;
-    }
-    Ok(())
 }
