@@ -12,37 +12,14 @@ use std::alloc::AllocError;
 use std::alloc::Global;
 
 // An image of one category of dimension 1 and one function without arguments.
-const EMPTY: [u8; 22] = [
-    b'C',
-    b'N',
-    b'C',
-    1,
-    0,
-    1,
-    1,
-    0,
-    0,
-    0,
-    0,
-    0,
-    0,
-    0,
-    0,
-    0,
-    1,
-    0,
-    0,
-    0,
-    0,
-    0,
-];
+const EMPTY: &[u8; 22] = b"CNC\x01\0\x01\x01\0\0\0\0\0\0\0\0\0\x01\0\0\0\0\0";
 
 impl ImageLanguage {
     // A language with one category, one function, no words and no rules.
     pub fn new(heap: Global) -> Result<ImageLanguage, AllocError>
         ensures { λ r. ⌜ made r (λ l. image-meaning (bytes-of l) ≡ new-meaning) ⌝ }
     {
-        let bytes = Vec::from_slice(heap, &EMPTY)?;
+        let bytes = Vec::from_slice(heap, EMPTY)?;
         Ok(ImageLanguage { bytes })
     }
 
