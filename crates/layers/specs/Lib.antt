@@ -1,0 +1,3 @@
+pub mod Hidden
+pub mod Small
+pub mod Choice
