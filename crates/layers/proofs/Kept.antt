@@ -1,13 +1,12 @@
 -- What a change of the words alone, or of the rules alone, keeps of a language's law and answers.
 use mathlib.Core.Path.{_≡_, refl, sym, ap, subst, _∙_}
-use mathlib.Core.List.{List, [], _∷_, map}
-use Prim.Native.Nat.{ℕ, zero, suc, _<_}
+use mathlib.Core.List.{List}
+use Prim.Native.Nat.{ℕ}
 use native.Mathlib.Omega.{arith}
 use lib.ListN.{length}
 use Rattle.std.specs.declared.option.Option.{Option}
 use Rattle.std.specs.declared.option.Option.the-variants.{Some, None}
 use Rattle.std.specs.Finite.{nth}
-use Rattle.std.specs.Options.{mapped}
 use Rattle.std.specs.shelf.Lists.{All}
 use Rattle.std.proofs.shelf.Elements.{all-weaker}
 use Rattle.grammar.specs.declared.symbol.Symbol.{Symbol}
@@ -37,9 +36,3 @@ rule-kept m n f forms r words dimensions h = record {
 pub same-rule-at : (m n : Meaning) (f : ℕ) → ((forms : List ℕ) → m .rule f forms ≡ n .rule f forms) → (key : Option (List ℕ)) → rule-at m f key ≡ rule-at n f key
 same-rule-at m n f same None = refl
 same-rule-at m n f same (Some forms) = ap Some (same forms)
-
--- the element at i of a list whose elements are all changed alike
-pub nth-map : {X Y : Type 0} (f : X → Y) (xs : List X) (i : ℕ) → nth (map f xs) i ≡ mapped f (nth xs i)
-nth-map f [] i = refl
-nth-map f (x ∷ xs) zero = refl
-nth-map f (x ∷ xs) (suc i) = nth-map f xs i

@@ -1,0 +1,8 @@
+use mathlib.Core.Path.{sym, _∙_}
+use native.Mathlib.Omega.{arith}
+use Rattle.std.proofs.shelf.Lists.{length-map}
+use Rattle.grammar.specs.Tables.{typed, listed}
+use Rattle.layers.proofs.notation.Notation.count.Needs as need
+
+pub returns : need.returns
+returns c = c .len .ensures ∙ sym (length-map (listed (c .args .self .now .signature)) typed)
