@@ -1,8 +1,8 @@
 -- The test of a signature decides its law, function by function.
 use mathlib.Core.Path.{_≡_, refl, sym, ap, _∙_}
 use mathlib.Core.Bool.{_&&_}
-use mathlib.Core.List.{List, map}
-use Prim.Native.Nat.{ℕ, suc, _+_, _≤_, _<_}
+use mathlib.Core.List.{map}
+use Prim.Native.Nat.{ℕ, _+_, _≤_, _<_}
 use native.Mathlib.Numerals.{add-one}
 use native.Mathlib.Omega.{arith}
 use lib.Dec.{leb, ltb}
@@ -11,7 +11,6 @@ use Rattle.std.specs.declared.option.Option.the-variants.{Some, None}
 use Rattle.std.specs.Finite.{nth}
 use Rattle.std.specs.Options.{mapped}
 use Rattle.std.specs.Orderings.{Decides}
-use Rattle.std.specs.shelf.Lists.{All}
 use Rattle.std.proofs.shelf.Maps.{nth-getD}
 use Rattle.std.proofs.shelf.Tests.{leb-true, le-leb}
 use Rattle.std.proofs.shelf.Ways.{decides-and, decides-ltb, decides-like, decides-by-and}
@@ -21,7 +20,7 @@ use Rattle.grammar.specs.declared.signature.SignatureTable.{SignatureTable}
 use Rattle.grammar.specs.Languages.{FunctionLawful, SignatureLawful}
 use Rattle.grammar.specs.Signatures.{Function, Signature}
 use Rattle.grammar.specs.Tables.{typed, listed}
-use Rattle.layers.specs.Checks.{all-below, function-fits, functions-fit, counts-fit, is-lawful}
+use Rattle.layers.specs.Checks.{all-below, function-fits, functions-fit, is-lawful}
 use Rattle.layers.proofs.Nth.{nth-map, drop-nth}
 
 decides-leb : (a b : ℕ) → Decides (leb a b) (a ≤ b)

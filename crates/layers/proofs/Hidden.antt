@@ -1,20 +1,16 @@
 -- A language with hidden functions: its law, and its answers from those below.
-use mathlib.Core.Path.{_≡_, refl, sym, ap, _∙_}
-use mathlib.Core.Bool.{Bool, true, false, cond}
+use mathlib.Core.Path.{_≡_, refl, sym, _∙_}
+use mathlib.Core.Bool.{Bool, false}
 use mathlib.Core.List.{List}
 use mathlib.Core.Logic.{⊎-elim}
 use Prim.Native.Nat.{ℕ, zero, suc}
 use native.Mathlib.Omega.{arith}
 use lib.ListN.{getD, replicate}
-use Rattle.std.specs.declared.option.Option.{Option}
 use Rattle.std.specs.declared.option.Option.the-variants.{Some, None}
-use Rattle.std.specs.Finite.{nth}
 use Rattle.std.proofs.shelf.Tests.{cases-bool, cond-true, cond-false}
-use Rattle.grammar.specs.Languages.{Meaning, Rule, RuleLawful, Lawful}
-use Rattle.grammar.specs.Questions.{rule-at}
-use Rattle.grammar.specs.Signatures.{Function}
+use Rattle.grammar.specs.Languages.{Meaning, Rule, Lawful}
 use Rattle.layers.specs.Hidden.{hidden}
-use Rattle.layers.proofs.Kept.{rule-kept, same-rule-at}
+use Rattle.layers.proofs.Kept.{rule-kept}
 
 pub none-marked : (n f : ℕ) → getD (replicate n false) f false ≡ false
 none-marked zero f = refl

@@ -1,18 +1,14 @@
 -- What a change of the words alone, or of the rules alone, keeps of a language's law and answers.
-use mathlib.Core.Path.{_≡_, refl, sym, ap, subst, _∙_}
+use mathlib.Core.Path.{_≡_, sym, ap, _∙_}
 use mathlib.Core.List.{List}
 use Prim.Native.Nat.{ℕ}
-use native.Mathlib.Omega.{arith}
 use lib.ListN.{length}
-use Rattle.std.specs.declared.option.Option.{Option}
-use Rattle.std.specs.declared.option.Option.the-variants.{Some, None}
 use Rattle.std.specs.Finite.{nth}
 use Rattle.std.specs.shelf.Lists.{All}
 use Rattle.std.proofs.shelf.Elements.{all-weaker}
 use Rattle.grammar.specs.declared.symbol.Symbol.{Symbol}
 use Rattle.grammar.specs.declared.symbol.Symbol.the-variants.{Word, Reference}
 use Rattle.grammar.specs.Languages.{Meaning, Rule, SymbolLawful, RuleLawful}
-use Rattle.grammar.specs.Questions.{rule-at}
 use Rattle.grammar.specs.Signatures.{Function}
 
 -- with as many words and the same dimensions, the same symbols are lawful
@@ -31,8 +27,3 @@ rule-kept m n f forms r words dimensions h = record {
   sequence-range = h .sequence-range;
   symbols-lawful = all-weaker (All (SymbolLawful m f)) (All (SymbolLawful n f)) (all-weaker (SymbolLawful m f) (SymbolLawful n f) (symbol-kept m n f words dimensions)) (r .sequences) (h .symbols-lawful);
 }
-
--- languages that have the same rules for a function answer alike of it
-pub same-rule-at : (m n : Meaning) (f : ℕ) → ((forms : List ℕ) → m .rule f forms ≡ n .rule f forms) → (key : Option (List ℕ)) → rule-at m f key ≡ rule-at n f key
-same-rule-at m n f same None = refl
-same-rule-at m n f same (Some forms) = ap Some (same forms)

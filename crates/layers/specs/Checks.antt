@@ -11,6 +11,7 @@ abbrev pub all-below : ℕ → List ℕ → Bool
 all-below n [] = true
 all-below n (c ∷ cs) = ltb c n && all-below n cs
 
+-- its categories are below n, and it has at most three arguments
 abbrev pub function-fits : ℕ → Function → Bool
 function-fits n f = ltb (f .result) n && (leb (length (f .arguments)) 3 && all-below n (f .arguments))
 

@@ -45,10 +45,12 @@ zero-each [] (k ∷ ks) = false
 zero-each (c ∷ cs) [] = false
 zero-each (c ∷ cs) (k ∷ ks) = eqb k 0 && zero-each cs ks
 
+-- the forms that a question names are all 0
 abbrev pub all-zero : List ℕ → Bool
 all-zero [] = true
 all-zero (k ∷ ks) = eqb k 0 && all-zero ks
 
+-- the one rule of function f
 abbrev pub written-rule : ℕ → ℕ → List ℕ → Rule
 written-rule count f arguments = record { form = 0; sequences = written count f arguments ∷ [] }
 

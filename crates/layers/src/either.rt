@@ -1,5 +1,4 @@
 // One of two languages: a choice that is made when the program runs.
-ghost use mathlib.Core.Path.{_≡_};
 ghost use Rattle.layers.specs.Choice.{chosen};
 use grammar::language::Language;
 use grammar::signature::Arguments;

@@ -3,3 +3,5 @@ pub mod either;
 pub mod hiding;
 pub mod notation;
 pub mod small_letters;
+#[cfg(test)]
+mod tests;

@@ -2,7 +2,6 @@
 ghost use mathlib.Core.Path.{_≡_};
 ghost use Rattle.std.specs.Finite.{nth};
 ghost use Rattle.std.specs.Options.{mapped};
-ghost use Rattle.grammar.specs.Languages.{Meaning};
 ghost use Rattle.grammar.specs.Tables.{typed, signature-of};
 use super::FunctionType;
 use super::SignatureTable;

@@ -56,6 +56,7 @@ fn counts_fit(table: &SignatureTable) -> bool
         & (functions <= 64)
 }
 
+// Whether the signature is lawful: its counts, and each of its functions.
 pub(super) fn is_lawful(table: &SignatureTable) -> bool
     ensures { λ r. ⌜ r ≡ is-lawful (signature-of (now (table .entry))) ⌝ }
 {

@@ -3,7 +3,7 @@ ghost use mathlib.Core.Path.{_≡_};
 ghost use Rattle.std.specs.Options.{isSome};
 ghost use Rattle.std.specs.Orderings.{Decides};
 ghost use Rattle.std.specs.Slices.{found};
-ghost use Rattle.grammar.specs.Languages.{Meaning, SignatureLawful};
+ghost use Rattle.grammar.specs.Languages.{SignatureLawful};
 ghost use Rattle.grammar.specs.Tables.{signature-of};
 ghost use Rattle.layers.specs.Notations.{signature-in};
 use super::Notation;

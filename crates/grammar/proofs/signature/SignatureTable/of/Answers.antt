@@ -1,3 +1,4 @@
+-- Each number has its function, and by the law of a language each function has its place.
 use native.Mathlib.Omega.{arith}
 use Rattle.grammar.proofs.Takes.{taken-all, taken-more, function-there}
 use Rattle.grammar.proofs.signature.SignatureTable.of.Needs as need

@@ -1,3 +1,4 @@
+-- The law, from that of the language that was chosen.
 use Rattle.layers.specs.declared.either.Either.the-variants.{First, Second}
 use Rattle.layers.proofs.either.EitherLanguage.the-impl.Needs as need
 

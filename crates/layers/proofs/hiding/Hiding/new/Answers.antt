@@ -1,5 +1,5 @@
+-- No function is marked.
 use mathlib.Core.Path.{refl}
-use mathlib.Core.Bool.{false}
 use Rattle.layers.proofs.Hidden.{none-marked}
 use Rattle.layers.proofs.hiding.Hiding.new.Needs as need
 

@@ -1,3 +1,4 @@
+-- The law, from that of the language below.
 use Rattle.layers.specs.Hidden.{hides-of}
 use Rattle.layers.proofs.Hidden.{hidden-lawful}
 use Rattle.layers.proofs.hiding.HidingLanguage.the-impl.Needs as need

@@ -1,5 +1,5 @@
+-- The signature has as many functions as the table lists.
 use mathlib.Core.Path.{sym, _∙_}
-use native.Mathlib.Omega.{arith}
 use Rattle.std.proofs.shelf.Lists.{length-map}
 use Rattle.grammar.specs.Tables.{typed, listed}
 use Rattle.layers.proofs.notation.Notation.count.Needs as need

@@ -1,3 +1,4 @@
+-- The test decides the law of the signature.
 use mathlib.Core.Path.{refl}
 use mathlib.Core.Bool.{true, false}
 use Rattle.std.proofs.shelf.Ways.{decides-at}

@@ -1,3 +1,4 @@
+-- A function that is there has its one sequence at forms that are all 0, and no other.
 use mathlib.Core.Path.{sym, ap, _∙_}
 use mathlib.Core.Bool.{true, false}
 use native.Mathlib.Omega.{arith}

@@ -1,3 +1,4 @@
+-- The counts of the table are those of its signature.
 use Rattle.std.proofs.shelf.Lists.{length-map}
 use Rattle.grammar.specs.Tables.{typed, listed}
 use Rattle.layers.proofs.notation.check.counts_fit.Needs as need

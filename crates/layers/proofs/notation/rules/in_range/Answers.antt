@@ -1,3 +1,4 @@
+-- By how many arguments there are, each of the three forms has its range.
 use mathlib.Core.Path.{_≡_, sym, ap, _∙_}
 use native.Mathlib.Omega.{arith}
 use lib.Dec.{eqb, leb}

@@ -1,3 +1,4 @@
+-- Three forms are all 0 where each of them is.
 use mathlib.Core.Path.{_≡_, _∙_}
 use native.Mathlib.Omega.{arith}
 use lib.Dec.{eqb}

@@ -1,3 +1,4 @@
+-- The bytes of a number of one digit, and of two.
 use mathlib.Core.Path.{sym, ap, _∙_}
 use native.Mathlib.Omega.{arith}
 use Rattle.std.specs.Finite.{nth}

@@ -1,3 +1,4 @@
+-- The length of a number of one digit, and of two, with the f before it.
 use mathlib.Core.Path.{sym, ap}
 use native.Mathlib.Omega.{arith}
 use lib.ListN.{length}

@@ -1,3 +1,4 @@
+-- An element that is read is the one at its place, and past the end there is none.
 use mathlib.Core.Path.{refl, sym}
 use native.Mathlib.Omega.{arith}
 use lib.ListN.{length}

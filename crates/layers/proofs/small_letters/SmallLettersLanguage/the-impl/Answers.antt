@@ -1,3 +1,4 @@
+-- The law, from that of the language below.
 use Rattle.layers.proofs.Small.{small-lawful}
 use Rattle.layers.proofs.small_letters.SmallLettersLanguage.the-impl.Needs as need
 

@@ -1,3 +1,4 @@
+-- Each byte is that below, made small.
 use mathlib.Core.Path.{ap, _∙_}
 use Rattle.std.specs.declared.option.Option.the-variants.{Some, None}
 use Rattle.layers.proofs.Small.{small-byte}

@@ -1,3 +1,4 @@
+-- Each word is as long as below.
 use mathlib.Core.Path.{sym, _∙_}
 use Rattle.layers.proofs.Small.{small-length}
 use Rattle.layers.proofs.small_letters.SmallLettersLanguage.word_length.Needs as need

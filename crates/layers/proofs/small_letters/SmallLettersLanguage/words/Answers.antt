@@ -1,3 +1,4 @@
+-- There are as many words as below.
 use mathlib.Core.Path.{sym, _∙_}
 use Rattle.std.proofs.shelf.Lists.{length-map}
 use Rattle.layers.specs.Small.{small-word}

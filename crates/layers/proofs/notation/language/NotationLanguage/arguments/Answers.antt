@@ -1,3 +1,4 @@
+-- The function of the table is that of the signature.
 use mathlib.Core.Path.{sym, ap, _∙_}
 use Rattle.std.specs.declared.option.Option.the-variants.{Some, None}
 use Rattle.std.specs.Options.{mapped}

@@ -1,3 +1,4 @@
+-- Each category has one constituent.
 use mathlib.Core.Path.{sym}
 use native.Mathlib.Omega.{arith}
 use Rattle.layers.proofs.Nth.{nth-replicate, nth-replicate-past}

@@ -1,3 +1,4 @@
+-- No function and forms out of range have no answer; else the rule is there at forms that are all 0.
 use mathlib.Core.Path.{sym, _∙_}
 use mathlib.Core.Bool.{true, false}
 use Rattle.layers.proofs.Asked.{rule-none, rule-outside, rule-inside}

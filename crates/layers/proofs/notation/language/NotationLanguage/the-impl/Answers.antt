@@ -1,3 +1,4 @@
+-- The law of the notation, from that of its signature.
 use Rattle.layers.specs.Notations.{signature-in}
 use Rattle.layers.proofs.Checked.{lawful-decided}
 use Rattle.layers.proofs.Notated.{notation-lawful}

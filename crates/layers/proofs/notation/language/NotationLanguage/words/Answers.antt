@@ -1,3 +1,4 @@
+-- A word for each function, and the three marks.
 use native.Mathlib.Omega.{arith}
 use lib.ListN.{length}
 use Rattle.layers.specs.Notations.{signature-in}
