@@ -5,6 +5,7 @@ ghost use lib.ListN.{length};
 
 mod asking;
 mod making;
+mod taking;
 
 // The most functions that a signature has.
 pub const FUNCTIONS: usize = 64;
