@@ -14,6 +14,7 @@ use Rattle.grammar.specs.PhraseWalk.{read-phrase}
 use Rattle.grammar.specs.Readings.{FullList}
 use Rattle.grammar.specs.Trees.{Tree}
 use Rattle.std.specs.declared.result.Result.the-variants.{Ok}
+use Rattle.std.specs.Written.{digits}
 use Rattle.port.specs.Cases.{WorkedCases, Lists, anything}
 use Rattle.port.specs.SmallPort.{port, Q, B}
 use Rattle.items.proofs.Edges.{all-counted}
@@ -38,6 +39,7 @@ no-capital (inr (inr (inl e))) = omega (arith, same-head _ _ _ _ e)
 no-capital (inr (inr (inr h))) = h
 
 pub worked-cases : WorkedCases
+unfolding digits
 worked-cases = record {
   two-readings = found _ _ 2 _ _ refl refl;
   one-deeper = found _ _ 3 _ _ refl refl;
@@ -59,6 +61,8 @@ worked-cases = record {
   depth-seven = (_, refl, refl);
   said-by-bridge = (_, (_, refl, refl), refl);
   said-length = refl;
+  said-in-notation = (_, (_, refl, refl), refl);
+  notation-length = refl;
   nothing-sent = (nothing 1 refl, (nothing 2 refl, (nothing 3 refl, (nothing 4 refl, (nothing 5 refl, (nothing 6 refl, tt))))));
   capital-letter = (_, refl, record { word = _; there = refl; unknown = no-capital; known-before = λ i w below. absurd (omega arith) });
   two-blanks = (_, refl, refl);

@@ -20,6 +20,7 @@ use Rattle.grammar.specs.PhraseWalk.{read-phrase}
 use Rattle.grammar.specs.Readings.{FullList}
 use Rattle.grammar.specs.Trees.{Tree, code}
 use Rattle.grammar.specs.Unknown.{FirstUnknown}
+use Rattle.layers.specs.Notations.{notation}
 use Rattle.port.specs.SmallPort.{port, Q, B, berth, rope, held, again}
 
 -- the bytes of a phrase are read, and the trees with these codes are its full list in Q, for the draft of these bytes
@@ -91,6 +92,8 @@ pub record WorkedCases : Type 0 where
   -- saying
   pub said-by-bridge : Says B (held rope) (codes "behold trosse tre")
   pub said-length : length (codes "behold trosse tre") ≡ 17
+  pub said-in-notation : Says (notation port) (held rope) (codes "f0 ( f2 )")
+  pub notation-length : length (codes "f0 ( f2 )") ≡ 9
   -- phrases
   pub nothing-sent : All (λ d. Lists anything [] d []) (1 ∷ 2 ∷ 3 ∷ 4 ∷ 5 ∷ 6 ∷ [])
   pub capital-letter : HasUnknown Q (codes "Hold three") 0
