@@ -1,0 +1,2 @@
+pub mod Muteness
+pub mod Lengths

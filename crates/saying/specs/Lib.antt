@@ -1,0 +1,3 @@
+pub mod Mute
+pub mod Sizes
+pub mod Laws
