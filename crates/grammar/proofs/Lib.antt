@@ -1,3 +1,4 @@
 pub mod Listed
 pub mod PhraseWalks
 pub mod Takes
+pub mod Optional

@@ -8,9 +8,9 @@ use lib.ListN.{length, getD}
 use Rattle.std.specs.declared.option.Option.{Option}
 use Rattle.std.specs.declared.option.Option.the-variants.{Some, None}
 use Rattle.std.specs.Options.{isSome}
-use Rattle.std.proofs.shelf.Tests.{true≢false, false≢true}
 use Rattle.cnc.specs.Check.{image-check, key}
 use Rattle.cnc.specs.Layout.{functions, rules, arity}
+use Rattle.grammar.proofs.Optional.{some-value, no-value}
 use Rattle.grammar.specs.Questions.{forms-of}
 use Rattle.image.specs.Lookups.{HasKey, LookedUp}
 use Rattle.image.specs.declared.lookup.Lookup.the-variants.{OutOfRange, Missing, Entry}
@@ -18,14 +18,6 @@ use Rattle.image.proofs.Asking.{asked-known, asked-unknown}
 use Rattle.image.proofs.FormRanges.{three-of}
 use Rattle.image.proofs.RuleSearch.{Key, rule-found, rule-missing}
 use Rattle.image.proofs.Sound.{Sound, sound}
-
-some-value : {A : Type 0} (o : Option A) → isSome o ≡ true → (x : A) × (o ≡ Some x)
-some-value None e = absurd (false≢true e)
-some-value (Some x) e = (x, refl)
-
-pub no-value : {A : Type 0} (o : Option A) → isSome o ≡ false → o ≡ None
-no-value None e = refl
-no-value (Some x) e = absurd (true≢false e)
 
 pub sound-bytes : (b : List ℕ) → isSome (image-check b) ≡ false → Sound b
 sound-bytes b e = sound b (no-value (image-check b) e)

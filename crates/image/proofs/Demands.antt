@@ -12,11 +12,9 @@ use Rattle.std.specs.Iters.{counting}
 use Rattle.std.specs.Joined.{joined}
 use Rattle.std.specs.shelf.Lists.{All}
 use Rattle.std.proofs.shelf.Tests.{leb-true, and-parts, cases-eq}
+use Rattle.grammar.proofs.Optional.{none-some}
 use Rattle.cnc.specs.declared.kinds.ImageFault.{ImageFault}
 use Rattle.cnc.specs.Check.{Demand, demand, first-broken, each, every, within}
-
-some-none : {A : Type 0} (x : A) → Some x ≡ None → ⊥
-some-none x e = let z : _≡_ {A = ℕ} 0 1 = cc in omega arith
 
 -- where none of the demands is broken, each is kept
 pub all-kept : (ds : List Demand) → first-broken ds ≡ None → All (λ d. d .kept ≡ true) ds
@@ -25,7 +23,7 @@ all-kept (d ∷ ds) e = by (d .kept) refl e (λ k. all-kept ds k)
   where
     by : (b : Bool) → d .kept ≡ b → cond b (first-broken ds) (Some (d .fault)) ≡ None → (first-broken ds ≡ None → All (λ x. x .kept ≡ true) ds) → (d .kept ≡ true) × All (λ x. x .kept ≡ true) ds
     by true k h rest = (k, rest h)
-    by false k h rest = absurd (some-none (d .fault) h)
+    by false k h rest = absurd (none-some (d .fault) (sym h))
 
 pub kept-parts : (xs ys : List Demand) → first-broken (xs ++ ys) ≡ None → (first-broken xs ≡ None) × (first-broken ys ≡ None)
 kept-parts [] ys e = (refl, e)
@@ -33,7 +31,7 @@ kept-parts (d ∷ xs) ys e = by (d .kept) refl e (λ k. kept-parts xs ys k)
   where
     by : (b : Bool) → d .kept ≡ b → cond b (first-broken (xs ++ ys)) (Some (d .fault)) ≡ None → (first-broken (xs ++ ys) ≡ None → (first-broken xs ≡ None) × (first-broken ys ≡ None)) → (first-broken (d ∷ xs) ≡ None) × (first-broken ys ≡ None)
     by true k h rest = (simp (k, first-broken) (rest h .0), rest h .1)
-    by false k h rest = absurd (some-none (d .fault) h)
+    by false k h rest = absurd (none-some (d .fault) (sym h))
 
 kept-from : (f : ℕ → List Demand) (n a : ℕ) → first-broken (joined f (counting a n)) ≡ None → (i : ℕ) → i < n → first-broken (f (a + i)) ≡ None
 kept-from f zero a e i lt = absurd (omega arith)

@@ -16,6 +16,7 @@ use Rattle.std.proofs.shelf.Tests.{eqb-true, eq-eqb, and-parts, and-from, cases
 use Rattle.cnc.specs.Check.{key, rises, form-sound}
 use Rattle.cnc.specs.Grammar.{listing, rule-entry, image-meaning}
 use Rattle.cnc.specs.Layout.{byte, rules, rule-at, rule-function, argument-form, rule-arity, arity}
+use Rattle.grammar.proofs.Optional.{none-some}
 use Rattle.grammar.specs.Languages.{Rule}
 use Rattle.grammar.specs.Questions.{forms-of, with-first}
 use Rattle.grammar.specs.RuleTables.{Entry, from-table}
@@ -63,28 +64,25 @@ Padded (suc n) [] ys = ⊥
 Padded (suc n) (k ∷ ks) [] = ⊥
 Padded (suc n) (k ∷ ks) (y ∷ ys) = (k ≡ y) × Padded n ks ys
 
-no-some : {A : Type 0} (x : A) → None ≡ Some x → ⊥
-no-some x e = let z : _≡_ {A = ℕ} 0 1 = cc in omega arith
-
 forms-padded : (ks : List ℕ) (n : ℕ) (ys : List ℕ) → forms-of n ks ≡ Some ys → Padded n ks ys
 forms-padded [] zero [] e = tt
 forms-padded [] zero (y ∷ ys) e = let z : _≡_ {A = ℕ} 0 1 = cc in absurd (omega arith)
-forms-padded [] (suc n) ys e = absurd (no-some ys e)
+forms-padded [] (suc n) ys e = absurd (none-some ys e)
 forms-padded (k ∷ ks) zero ys e = by (eqb k 0) refl e (λ h. forms-padded ks zero ys h)
   where
     by : (t : Bool) → eqb k 0 ≡ t → cond t (forms-of zero ks) None ≡ Some ys → (forms-of zero ks ≡ Some ys → Padded zero ks ys) → (k ≡ 0) × Padded zero ks ys
     by true t h rest = (eqb-true k 0 t, rest h)
-    by false t h rest = absurd (no-some ys h)
+    by false t h rest = absurd (none-some ys h)
 forms-padded (k ∷ ks) (suc n) ys e = by (leb k 7) e (λ zs h. forms-padded ks n zs h)
   where
     first : (o : Option (List ℕ)) (ws : List ℕ) → forms-of n ks ≡ o → with-first k o ≡ Some ws → ((zs : List ℕ) → forms-of n ks ≡ Some zs → Padded n ks zs) → Padded (suc n) (k ∷ ks) ws
-    first None ws same h rest = absurd (no-some ws h)
+    first None ws same h rest = absurd (none-some ws h)
     first (Some zs) [] same h rest = let z : _≡_ {A = ℕ} 0 1 = cc (h) in absurd (omega arith)
     first (Some zs) (w ∷ ws) same h rest = (let e : k ≡ w = cc (h) in e, rest ws (same ∙ ap Some (let e : zs ≡ ws = cc (h) in e)))
 
     by : (t : Bool) → cond t (with-first k (forms-of n ks)) None ≡ Some ys → ((zs : List ℕ) → forms-of n ks ≡ Some zs → Padded n ks zs) → Padded (suc n) (k ∷ ks) ys
     by true h rest = first (forms-of n ks) ys refl h rest
-    by false h rest = absurd (no-some ys h)
+    by false h rest = absurd (none-some ys h)
 
 -- three forms that are 0 past the n-th, against a question's
 module _ (g : ℕ → ℕ) (x y z : ℕ) where

@@ -13,7 +13,8 @@ use Rattle.std.specs.Finite.{nth}
 use Rattle.std.specs.Joined.{joined}
 use Rattle.std.specs.Options.{isSome}
 use Rattle.std.specs.shelf.Lists.{All, kept-by}
-use Rattle.std.proofs.shelf.Tests.{eqb-true, eq-eqb, false≢true}
+use Rattle.std.proofs.shelf.Tests.{eqb-true, eq-eqb}
+use Rattle.grammar.proofs.Optional.{some-value}
 use Rattle.grammar.specs.Charts.{Item, Items, Edge, Edges, Counts, item-category, item-form}
 use Rattle.grammar.specs.Languages.{Meaning, Rule, Words}
 use Rattle.grammar.specs.Lists.{Holds, Distinct, Counted}
@@ -52,10 +53,6 @@ all-edges m phrase d = edges-from m (all-items m phrase (d - 1)) 0 (m .signature
 distinct-pairwise : {A : Type 0} (xs : List A) → Distinct xs → Pairwise Apart xs
 distinct-pairwise [] d = tt
 distinct-pairwise (x ∷ xs) d = (holds-all (Apart x) xs (λ y h e. d .0 (subst (Holds xs) (sym e) h)), distinct-pairwise xs (d .1))
-
-some-value : {A : Type 0} (o : Option A) → isSome o ≡ true → (x : A) × (o ≡ Some x)
-some-value None e = absurd (false≢true e)
-some-value (Some x) e = (x, refl)
 
 module _ (known : List Item) where
   -- a row of known items of the categories

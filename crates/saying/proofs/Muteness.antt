@@ -8,6 +8,7 @@ use lib.ListN.{length, length-append}
 use Rattle.std.specs.declared.option.Option.{Option}
 use Rattle.std.specs.declared.option.Option.the-variants.{Some, None}
 use Rattle.std.proofs.shelf.Tests.{cases-order}
+use Rattle.grammar.proofs.Optional.{none-some}
 use Rattle.grammar.specs.Languages.{Meaning, Rule}
 use Rattle.grammar.specs.Linearization.{Said, linearized, linearized-all, said-node, said-more, apply-rule, by-rule, said-form}
 use Rattle.grammar.specs.Trees.{Tree, Trees, code, codes}
@@ -15,9 +16,6 @@ use Rattle.grammar.specs.Trees.Tree.{node}
 use Rattle.grammar.specs.Trees.Trees.{none, more}
 use Rattle.saying.specs.Laws.{SaidOrMute, SaidIsNotMute, FirstMuteIsUnique}
 use Rattle.saying.specs.Mute.{At, AtIn, MuteNode, FirstMute}
-
-none-some : {A : Type 0} (x : A) → None ≡ Some x → ⊥
-none-some x e = let z : _≡_ {A = ℕ} 0 1 = cc in omega arith
 
 -- a place of a subtree lies in the code
 mutual

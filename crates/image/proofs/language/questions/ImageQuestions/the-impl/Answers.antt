@@ -1,5 +1,5 @@
 use Rattle.std.specs.Of.Vec.{vec-items}
-use Rattle.image.proofs.Answered.{no-value}
+use Rattle.grammar.proofs.Optional.{no-value}
 use Rattle.image.proofs.Lawfulness.{sound-images-are-lawful}
 use Rattle.image.proofs.language.questions.ImageQuestions.the-impl.Needs as need
 
