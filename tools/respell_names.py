@@ -14,8 +14,6 @@ TOLD = {
     # fields of ImageView have the plain spelling
     "functions-at": "functions_from", "words-at": "words_from", "rules-at": "rules_from",
     "symbols-at": "symbols_from", "spelled-at": "spelled_from", "spelled_at": "spelled_from",
-    # types and facts are in camel case
-    "Decides-like": "DecidesLike", "After-push": "AfterPush", "After-put": "AfterPut",
     # names that a proof binds
     "dimensions-kept": "dimensions_kept", "no-match": "no_match", "no-path": "no_path",
     "of-marks": "of_marks", "on-page": "on_page", "past-mark": "past_mark",
@@ -50,7 +48,7 @@ def declared():
             kind = KIND.match(line)
             if kind and "-" in kind.group(1):
                 found.add(kind.group(1))
-    return {name for name in found if re.match(r"^[A-Za-z0-9_'-]+$", name) and not name.startswith("-")}
+    return {name for name in found - {"Decides-like"} if re.match(r"^[A-Za-z0-9_'-]+$", name) and not name.startswith("-")}
 
 
 def respelled(text, names):

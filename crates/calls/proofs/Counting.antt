@@ -1,5 +1,5 @@
 -- Counting a phrase's words: what the count is when the reader has no word left.
-use Rattle.std.proofs.Common.{◌≡◌, ℕ, ◌+◌, List, map, length, None, Ok, Option, sym, refl, ap, ◌∙◌, subst, arith}
+use Rattle.std.proofs.Common.{◌≡◌, ℕ, List, map, length, None, Ok, Option, ap, ◌∙◌, subst, arith}
 use lib.ListN.{length-map}
 use Rattle.grammar.specs.PhraseWalk.{Walk, phrase_walk, read_phrase, spelling_of, finished}
 use Rattle.text.specs.declared.reader.PhraseWord.{PhraseWord}

@@ -1,4 +1,6 @@
 // The checks of a call that sends a depth, a draft and a phrase, in their order; and the calls of the built-in small port.
+#![tactic(auto)]
+
 ghost use Rattle.grammar.specs.Tables.{signature_of};
 ghost use Rattle.calls.specs.Calls.{WordCount, Found};
 

@@ -1,5 +1,5 @@
 -- The edges of a function, form by form.
-use Rattle.std.proofs.Common.{◌≡◌, ℕ, zero, suc, ◌+◌, ◌<◌, ◌≤◌, Bool, true, false, List, [], ◌∷◌, ◌++◌, map, length, Some, None, Option, sym, refl, ap, ◌∙◌, subst, inl, inr, append_assoc, append-nil, arith}
+use Rattle.std.proofs.Common.{◌≡◌, ℕ, List, [], ◌∷◌, ◌++◌, map, Some, None, Option, sym, refl, ap, ◌∙◌, inl, inr, arith}
 use Rattle.std.specs.List.{flat_map}
 use Rattle.std.specs.Option.{option_map}
 use Rattle.grammar.specs.declared.symbol.RuleForm.{RuleForm}
@@ -7,12 +7,8 @@ use Rattle.grammar.specs.declared.symbol.RuleForm.TheVariants.{Form, Missing}
 use Rattle.grammar.specs.Languages.{Meaning, Rule}
 use Rattle.grammar.specs.Lists.{Holds}
 use Rattle.grammar.specs.Questions.{asked, form_or_lack, rule_answer, rule_at}
-use Rattle.chart.specs.declared.edge.Edge.{Edge}
-use Rattle.chart.specs.declared.item.Item.{Item}
-use Rattle.chart.specs.Forms.{form_edges, ruled_edges, up_to}
-use Rattle.chart.specs.Index.{places_of}
-use Rattle.chart.specs.Rows.{Filled, product}
-use Rattle.chart.proofs.Filling.{filled_none}
+use Rattle.chart.specs.Forms.{ruled_edges}
+use Rattle.chart.specs.Rows.{product}
 
 -- what the answer on a rule tells of the edges
 answer_is : (m : Meaning) (f : ℕ) (forms ks : List ℕ) (o : Option RuleForm) → asked m f forms ≡ Some ks → o ≡ rule_answer m f forms → o ≡ Some (form_or_lack (m.rule f ks))

@@ -1,6 +1,5 @@
 -- The places of the items of each category and form, chained in rising order.
 use Rattle.std.specs.Prelude.{◌≡◌, ℕ, suc, ◌+◌, ◌*◌, ◌<◌, cond, ◌&&◌, List, [], ◌∷◌, ◌==◌, slice_index}
-use Rattle.std.specs.List.{AllByRecursion as All}
 use Rattle.chart.specs.declared.index.Index.{Index}
 use Rattle.chart.specs.declared.item.Item.{Item}
 

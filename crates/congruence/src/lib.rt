@@ -1,4 +1,6 @@
 // The laws that a chart stands on, each on the contract of a function that is named for it.
+#![tactic(auto)]
+
 ghost use Rattle.congruence.specs.Laws.{ItemFollowsFromArgumentItems, OneItemForOneFunctionAndArguments, ItemsGrowByEdges, ItemsOnlyGrow, ALevelWithoutNewItemsIsTheLast, EachEdgeHasOneResult};
 
 // The item of a node follows from the items of its arguments.

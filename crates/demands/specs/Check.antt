@@ -5,7 +5,7 @@ use Rattle.grammar.specs.PhraseWalk.{permitted}
 use Rattle.flaw.specs.declared.kinds.ImageFault.{ImageFault}
 use Rattle.flaw.specs.declared.kinds.ImageFault.TheVariants.{Mark, Short, Range, Total, Field, Word, Rule, Symbol}
 use Rattle.view.specs.Grammar.{key}
-use Rattle.view.specs.Layout.{byte, pair, categories, functions, start, words, rules, symbols, spelled, functions_from, total, dimension, function_at, result, arity, argument, word_offset, word_length, spelling, rule_function, argument_form, result_form, first_symbol, symbol_count, rule_arity, rule_dimension, symbol_bits}
+use Rattle.view.specs.Layout.{byte, categories, functions, start, words, rules, symbols, spelled, total, dimension, function_at, result, arity, argument, word_offset, word_length, spelling, rule_function, argument_form, result_form, first_symbol, symbol_count, rule_arity, rule_dimension, symbol_bits}
 
 -- a rule of the format: whether the bytes keep it, and the fault where they do not
 pub record Demand : Type 0 where

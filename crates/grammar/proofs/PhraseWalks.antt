@@ -1,7 +1,7 @@
 -- What the phrase's walk hands out: at most 32 words.
-use Rattle.std.proofs.Common.{◌≡◌, ℕ, suc, ◌+◌, ◌<◌, ◌≤◌, Bool, true, false, ◌&&◌, ◌||◌, leb, List, [], ◌∷◌, ◌++◌, length, sym, refl, ap, ◌∙◌, subst, ⊎_elim, arith}
+use Rattle.std.proofs.Common.{◌≡◌, ℕ, suc, ◌+◌, ◌<◌, ◌≤◌, Bool, true, false, ◌&&◌, ◌||◌, leb, List, [], ◌∷◌, ◌++◌, length, sym, refl, ⊎_elim, arith}
 use Rattle.std.proofs.lemmas.Bool.{leb-false, or_parts, and_cases, false≢true}
-use Rattle.grammar.specs.PhraseWalk.{Kind, Walk, walk, kind, empty, most_words, longest_word, phrase_walk}
+use Rattle.grammar.specs.PhraseWalk.{Kind, walk, kind, empty, most_words, longest_word, phrase_walk}
 use Rattle.grammar.specs.PhraseWalk.Kind.{between, letter, neither}
 
 not_empty : (word : List ℕ) → empty word ≡ false → 0 < length word

@@ -1,5 +1,5 @@
 -- Windows, items and edges: what a phrase makes of all trees of a language up to a depth.
-use Rattle.std.specs.Prelude.{◌≡◌, ℕ, ◌-◌, ◌≤◌, List, [], ◌∷◌, ◌++◌, map, length, Some, Option}
+use Rattle.std.specs.Prelude.{◌≡◌, ℕ, ◌-◌, ◌≤◌, List, [], ◌∷◌, ◌++◌, map, length, Some}
 use Rattle.std.specs.List.{slice_get, AllByRecursion as All}
 use Rattle.grammar.specs.declared.symbol.Window.{Window}
 use Rattle.grammar.specs.declared.symbol.Window.TheVariants.{Inside, Outside}

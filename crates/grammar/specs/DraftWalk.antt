@@ -1,5 +1,5 @@
 -- The draft's walk: a code read from the front, one byte and then the rest, into a draft or the first fault with its place.
-use Rattle.std.specs.Prelude.{ℕ, zero, suc, cond, List, [], ◌∷◌, ◌++◌, length, Some, None, Ok, Err, Option, Result, ◌==◌, nat_le}
+use Rattle.std.specs.Prelude.{ℕ, zero, suc, cond, List, [], ◌∷◌, Some, None, Ok, Err, Option, Result, ◌==◌, nat_le}
 use Rattle.std.specs.List.{slice_get}
 use Rattle.fault.specs.declared.kinds.TreeFault.{TreeFault}
 use Rattle.fault.specs.declared.kinds.TreeFault.TheVariants.{DepthOutOfRange, EndsEarly, LeftOver, WrongNode, TooDeep}

@@ -1,5 +1,5 @@
 -- The signature that a table of fixed size stands for.
-use Rattle.std.specs.Prelude.{ℕ, List, map, take}
+use Rattle.std.specs.Prelude.{List, map, take}
 use Rattle.grammar.specs.declared.signature.FunctionType.{FunctionType}
 use Rattle.grammar.specs.declared.signature.SignatureTable.{SignatureTable}
 use Rattle.grammar.specs.Questions.{argument_list}

@@ -1,13 +1,12 @@
 -- What a rule that is looked up by its key is, for a question in range.
-use Rattle.std.proofs.Common.{◌≡◌, ℕ, ◌<◌, ◌≤◌, Bool, true, false, List, [], ◌∷◌, length, get_or, is_some, Some, None, Option, sym, refl, ap, ◌∙◌, subst, arith}
+use Rattle.std.proofs.Common.{◌≡◌, ℕ, ◌<◌, true, false, List, [], ◌∷◌, length, get_or, is_some, Some, None, sym, ap, ◌∙◌}
 use Rattle.demands.specs.Check.{image_check}
-use Rattle.view.specs.Grammar.{key}
-use Rattle.view.specs.Layout.{functions, rules, arity}
+use Rattle.view.specs.Layout.{functions, arity}
 use Rattle.grammar.proofs.Optional.{some_value, no_value}
 use Rattle.grammar.specs.Questions.{forms_of}
 use Rattle.image.specs.Lookups.{HasKey, LookedUp}
 use Rattle.image.specs.declared.lookup.Lookup.TheVariants.{OutOfRange, Missing, Entry}
-use Rattle.soundness.proofs.Asking.{asked_known, asked_unknown}
+use Rattle.soundness.proofs.Asking.{asked_known}
 use Rattle.soundness.proofs.FormRanges.{three_of}
 use Rattle.soundness.proofs.RuleSearch.{Key, rule_found, rule_missing}
 use Rattle.soundness.proofs.Sound.{Sound, sound}

@@ -1,18 +1,15 @@
 -- What each question is told out of the fields of a sound image.
-use Rattle.std.proofs.Common.{◌≡◌, ℕ, ◌+◌, ◌-◌, ◌/◌, ◌%◌, ◌<◌, ◌≤◌, Bool, true, false, cond, ◌&&◌, eqb, ltb, leb, List, [], ◌∷◌, length, get_or, take, drop, Some, None, Option, sym, refl, ap, ◌∙◌, subst, arith}
+use Rattle.std.proofs.Common.{◌≡◌, ℕ, ◌+◌, ◌-◌, ◌/◌, ◌%◌, ◌<◌, ◌≤◌, Bool, true, false, cond, ◌&&◌, ltb, List, length, get_or, drop, Some, None, sym, refl, ap, ◌∙◌, arith}
 use Rattle.std.specs.List.{slice_get}
 use Rattle.std.specs.Option.{option_map}
 use Rattle.std.proofs.lemmas.List.{get_or-take, get_or-drop}
 use Rattle.std.proofs.lemmas.Option.{slice_get-get_or, slice_get_past}
-use Rattle.std.proofs.lemmas.Bool.{ltb-true, ltb-false, lt-ltb, leb-true, and_parts, cases_Bool, cond-true, cond-false}
-use Rattle.demands.specs.Check.{symbol_sound}
-use Rattle.view.specs.Grammar.{listing, image_function, image_meaning, rule_entry, sequence, symbol_of}
-use Rattle.view.specs.Layout.{byte, categories, functions, words, rules, symbols, spelled_from, dimension, result, arity, argument, word_offset, word_length, spelling, rule_function, first_symbol, symbol_count, rule_dimension, symbol_bits}
-use Rattle.grammar.specs.declared.symbol.Symbol.{Symbol}
-use Rattle.grammar.specs.Languages.{Meaning}
-use Rattle.grammar.specs.Questions.{at, asked, rule_at, sequence_at, function_result, result_answer, word_length_answer, word_byte_answer, sequence_answer, sequence_length_answer, symbol_answer}
+use Rattle.std.proofs.lemmas.Bool.{ltb-true, and_parts}
+use Rattle.view.specs.Grammar.{listing, image_function, image_meaning, sequence, symbol_of}
+use Rattle.view.specs.Layout.{byte, categories, functions, words, spelled_from, dimension, result, arity, argument, word_offset, word_length, spelling, rule_function, first_symbol, symbol_count, rule_dimension, symbol_bits}
+use Rattle.grammar.specs.Questions.{at, rule_at, sequence_at, function_result, result_answer, word_length_answer, word_byte_answer, sequence_answer, sequence_length_answer, symbol_answer}
 use Rattle.image.specs.Lookups.{LookedUp}
-use Rattle.image.specs.declared.lookup.Lookup.TheVariants.{OutOfRange, Missing, Entry}
+use Rattle.image.specs.declared.lookup.Lookup.TheVariants.{Entry}
 use Rattle.soundness.proofs.Asking.{listing_past}
 use Rattle.soundness.proofs.Lawfulness.{word_long, symbols_inside}
 use Rattle.soundness.proofs.Listings.{listing_length, listing_nth}

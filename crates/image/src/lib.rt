@@ -1,4 +1,6 @@
 // The image language: a CNC image that was checked and loaded.
+#![tactic(auto)]
+
 mod decode;
 mod keys;
 pub mod language;

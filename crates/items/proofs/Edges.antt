@@ -1,10 +1,10 @@
 -- Edges: all edges over the items of a depth, each once; and the counts of a chart.
-use Rattle.std.proofs.Common.{◌≡◌, ℕ, zero, suc, ◌+◌, ◌-◌, Bool, true, false, eqb, ◌⊎◌, ◌↔◌, List, [], ◌∷◌, ◌++◌, map, length, is_some, Some, None, filter, Option, sym, refl, ap, ◌∙◌, subst, inl, inr, ⊎_elim, arith}
+use Rattle.std.proofs.Common.{◌≡◌, ℕ, zero, suc, ◌+◌, ◌-◌, Bool, true, eqb, List, [], ◌∷◌, ◌++◌, map, length, is_some, Some, filter, sym, refl, ap, ◌∙◌, subst, inl, inr, ⊎_elim, arith}
 use Rattle.std.specs.List.{slice_get, flat_map, AllByRecursion as All}
 use Rattle.std.proofs.lemmas.Bool.{eqb-true, eq-eqb}
 use Rattle.grammar.proofs.Optional.{some_value}
 use Rattle.grammar.specs.Charts.{Item, Items, Edge, Edges, Counts, item_category, item_form}
-use Rattle.grammar.specs.Languages.{Meaning, Rule, Words}
+use Rattle.grammar.specs.Languages.{Meaning, Words}
 use Rattle.grammar.specs.Lists.{Holds, Distinct, Counted}
 use Rattle.grammar.specs.Signatures.{Function}
 use Rattle.readings.proofs.Membership.{Pairwise, holds_left, holds_right, holds_cases, holds_map, map_holds, holds_joined, joined_holds, holds_kept, kept_holds, pairwise_append, pairwise_map, pairwise_kept, holds_all, all_holds}

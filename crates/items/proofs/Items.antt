@@ -1,18 +1,17 @@
 -- Items: all items of a language's trees within a depth, each once.
-use Rattle.std.proofs.Common.{◌≡◌, ℕ, zero, suc, ◌≤◌, Bool, true, false, cond, ◌&&◌, eqb, ◌⊎◌, ◌↔◌, List, [], ◌∷◌, ◌++◌, map, length, Some, None, Decides, Option, sym, refl, ap, ◌∙◌, subst, inl, inr, ⊎_elim, arith}
+use Rattle.std.proofs.Common.{◌≡◌, ℕ, zero, suc, Bool, true, false, ◌&&◌, eqb, ◌↔◌, List, [], ◌∷◌, map, length, Some, None, Decides, Option, sym, refl, ap, ◌∙◌, subst, inl, inr, arith}
 use Rattle.std.specs.List.{slice_get, flat_map}
 use Rattle.std.specs.Option.{option_to_list}
 use Rattle.std.proofs.lemmas.Bool.{false≢true}
-use Rattle.std.proofs.lemmas.Bool.Decides.{Decides-and, Decides-eqb, DecidesLike}
+use Rattle.std.proofs.lemmas.Bool.Decides.{Decides-and, Decides-eqb, Decides-like}
 use Rattle.grammar.specs.declared.symbol.Window.{Window}
 use Rattle.grammar.specs.declared.symbol.Window.TheVariants.{Inside, Outside}
-use Rattle.grammar.specs.Charts.{Item, ItemOf, Items, AreWindows}
+use Rattle.grammar.specs.Charts.{Item, ItemOf, Items}
 use Rattle.grammar.specs.Languages.{Meaning, Words}
 use Rattle.grammar.specs.Linearization.{Said, linearized}
 use Rattle.grammar.specs.Lists.{Holds, Distinct, Counted}
 use Rattle.grammar.specs.Questions.{function_result}
-use Rattle.grammar.specs.Signatures.{Signature, Function}
-use Rattle.grammar.specs.Trees.{Tree, depth, HasCategory}
+use Rattle.grammar.specs.Trees.{Tree, HasCategory}
 use Rattle.grammar.specs.Trees.Tree.{node}
 use Rattle.readings.proofs.Enumeration.{trees, trees_sound, trees_complete}
 use Rattle.readings.proofs.Membership.{holds_map, holds_joined, joined_holds}
@@ -104,7 +103,7 @@ same_item a b = eqb a.category b.category && (eqb a.form b.form && same_windows 
 
 window_decides : (w v : Window) → Decides (same_window w v) (w ≡ v)
 window_decides (Inside i n) (Inside j k) =
-    DecidesLike (eqb i j && eqb n k) (λ p x. Inside (p.0 x) (p.1 x)) (λ e. (let h : i ≡ j = cc in h, let h : n ≡ k = cc in h))
+    Decides-like (eqb i j && eqb n k) (λ p x. Inside (p.0 x) (p.1 x)) (λ e. (let h : i ≡ j = cc in h, let h : n ≡ k = cc in h))
     (Decides-and (eqb i j) (eqb n k) (Decides-eqb i j) (Decides-eqb n k))
 window_decides (Inside i n) Outside = (λ e. absurd (false≢true e), λ e. let z : ◌≡◌ {A = ℕ} 0 1 = cc in absurd (omega arith))
 window_decides Outside (Inside j k) = (λ e. absurd (false≢true e), λ e. let z : ◌≡◌ {A = ℕ} 0 1 = cc in absurd (omega arith))
@@ -115,12 +114,12 @@ windows_decide [] [] = (λ e. refl, λ e. refl)
 windows_decide [] (v ∷ vs) = (λ e. absurd (false≢true e), λ e. let z : ◌≡◌ {A = ℕ} 0 1 = cc in absurd (omega arith))
 windows_decide (w ∷ ws) [] = (λ e. absurd (false≢true e), λ e. let z : ◌≡◌ {A = ℕ} 0 1 = cc in absurd (omega arith))
 windows_decide (w ∷ ws) (v ∷ vs) =
-    DecidesLike (same_window w v && same_windows ws vs) (λ p x. p.0 x ∷ p.1 x) (λ e. (let h : w ≡ v = cc in h, let h : ws ≡ vs = cc in h))
+    Decides-like (same_window w v && same_windows ws vs) (λ p x. p.0 x ∷ p.1 x) (λ e. (let h : w ≡ v = cc in h, let h : ws ≡ vs = cc in h))
     (Decides-and (same_window w v) (same_windows ws vs) (window_decides w v) (windows_decide ws vs))
 
 pub item_decides : (a b : Item) → Decides (same_item a b) (a ≡ b)
 item_decides a b =
-    DecidesLike (same_item a b) (λ p. same_fields a b p.0 p.1.0 p.1.1) (λ e. (ap (λ i. i.category) e, (ap (λ i. i.form) e, ap (λ i. i.windows) e)))
+    Decides-like (same_item a b) (λ p. same_fields a b p.0 p.1.0 p.1.1) (λ e. (ap (λ i. i.category) e, (ap (λ i. i.form) e, ap (λ i. i.windows) e)))
     (Decides-and (eqb a.category b.category) _ (Decides-eqb a.category b.category) (Decides-and (eqb a.form b.form) (same_windows a.windows b.windows) (Decides-eqb a.form b.form) (windows_decide a.windows b.windows)))
 
 -- all items, each once

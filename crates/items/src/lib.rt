@@ -1,4 +1,6 @@
 // The laws of windows and of a chart's counts, each on the contract of a function that is named for it.
+#![tactic(auto)]
+
 ghost use Rattle.items.specs.Laws.{WindowExists, WindowIsUnique, CountsExist, CountsAreUnique};
 
 // Every string of words has a window in every phrase.

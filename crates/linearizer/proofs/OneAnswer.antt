@@ -1,6 +1,5 @@
 -- Saying has one answer: a tree has one text or one first mute node, and a text fits or does not.
-use Rattle.std.proofs.Common.{◌≡◌, ℕ, ◌+◌, ◌<◌, ◌≤◌, List, length, Ok, Err, Result, sym, refl, ap, ◌∙◌, arith}
-use Rattle.fault.specs.declared.kinds.SayFault.{SayFault}
+use Rattle.std.proofs.Common.{◌≡◌, ℕ, ◌+◌, ◌<◌, ◌≤◌, List, length, Ok, Err, sym, refl, ap, ◌∙◌, arith}
 use Rattle.fault.specs.declared.kinds.SayFault.TheVariants.{OtherSignature, Mute, NoRoom}
 use Rattle.grammar.specs.Languages.{Meaning}
 use Rattle.grammar.specs.Linearization.{main_constituent, spaced}

@@ -1,5 +1,5 @@
 -- Saying a tree: from its measures to the answer.
-use Rattle.std.proofs.Common.{◌≡◌, ℕ, ◌+◌, ◌-◌, ◌<◌, ◌≤◌, List, [], ◌++◌, length, get_or, take, drop, Some, Ok, Err, sym, refl, ap, ◌∙◌, subst, append-nil, arith}
+use Rattle.std.proofs.Common.{◌≡◌, ℕ, ◌+◌, ◌-◌, ◌<◌, ◌≤◌, List, [], ◌++◌, length, take, drop, Some, Ok, Err, sym, refl, ap, ◌∙◌, subst, append-nil, arith}
 use Rattle.std.specs.Option.{option_map}
 use Rattle.std.proofs.lemmas.List.{drop_all}
 use Rattle.fault.specs.declared.kinds.SayFault.{SayFault}
@@ -10,7 +10,6 @@ use Rattle.grammar.specs.Trees.{Tree}
 use Rattle.saying.specs.Sizes.{text_length}
 use Rattle.saying.proofs.Lengths.{text_length_by_sums}
 use Rattle.saying.proofs.Places.{at_start}
-use Rattle.measure.specs.declared.kinds.Measure.{Measure}
 use Rattle.measure.specs.declared.kinds.NodeMeasure.{NodeMeasure}
 use Rattle.measure.specs.declared.table.MeasureTable.{MeasureTable}
 use Rattle.measure.specs.Measured.{measured_at, Measured}
@@ -23,7 +22,7 @@ use Rattle.tree.specs.Codes.{IsTree}
 use Rattle.tree.specs.Read.{bytes_of, tree_signature}
 use Rattle.tree.proofs.Filled.{code_is_tree}
 use Rattle.linearizer.specs.declared.text.TextFault.TheVariants.{Unsaid}
-use Rattle.linearizer.specs.Says.{Says, SaysCode, TextOf}
+use Rattle.linearizer.specs.Says.{SaysCode, TextOf}
 use Rattle.linearizer.specs.Texts.{TextTold}
 use Rattle.linearizer.specs.Written.{AtFront, Ready}
 

@@ -1,5 +1,5 @@
 -- Walking along a list by asking for the element at each place: what an answer tells of the list.
-use Rattle.std.proofs.Common.{◌≡◌, ℕ, zero, suc, ◌<◌, ◌≤◌, List, [], ◌∷◌, ◌++◌, map, length, get_or, take, drop, Some, None, ap, arith}
+use Rattle.std.proofs.Common.{◌≡◌, ℕ, zero, suc, ◌≤◌, List, [], ◌∷◌, ◌++◌, map, length, get_or, take, Some, None, ap, arith}
 use Rattle.std.specs.List.{slice_get}
 use Rattle.grammar.proofs.Optional.{none_some}
 

@@ -24,7 +24,7 @@ pub(crate) fn next_symbol<L: Language>(
     table: &MeasureTable,
     frame: Frame,
 ) -> Option<Symbol>
-    ensures { result ≡ slice_get (frame_symbols (meaning language.now) tree.now table.now frame) frame.next }
+    ensures { result ≡ slice_get (frame_symbols (L.meaning language.now) tree.now table.now frame) frame.next }
 {
     let function = tree.byte(frame.place)?;
     let forms = table.at(frame.place).forms;

@@ -1,4 +1,6 @@
 // Writing the text of a tree in a language, with the unfinished nodes kept as frames on a stack over lent cells.
+#![tactic(auto)]
+
 mod frame;
 pub mod laws;
 pub mod say;

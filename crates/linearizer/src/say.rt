@@ -35,7 +35,7 @@ pub fn say<L: Language>(
     page: &mut [u8],
     start: usize,
 ) -> Result<usize, SayFault>
-    ensures { SaysCode (meaning language.now) tree.now page.old start result page.new }
+    ensures { SaysCode (L.meaning language.now) tree.now page.old start result page.new }
 {
     let table = measure(tree, language)?;
     let length = text_length(&table);

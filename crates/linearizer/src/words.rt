@@ -8,9 +8,9 @@ use writer::WordWriter;
 
 // Writes a word that has room, byte by byte, with a blank before it unless it is the first.
 pub(crate) fn write_word<L: Language>(language: &L, word: u16, writer: &mut WordWriter)
-    requires { writer.old.used + length (gap writer.old ++ spelling (meaning language.now) word) ≤ length writer.old.part.now }
+    requires { writer.old.used + length (gap writer.old ++ spelling (L.meaning language.now) word) ≤ length writer.old.part.now }
     ensures lender { writer.new.part.ghost_name ≡ writer.old.part.ghost_name }
-    ensures grown { Grown (gap writer.old ++ spelling (meaning language.now) word) true writer.old writer.new }
+    ensures grown { Grown (gap writer.old ++ spelling (L.meaning language.now) word) true writer.old writer.new }
 {
     writer.begin_word();
     let mut index = 0;

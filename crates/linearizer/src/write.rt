@@ -22,10 +22,10 @@ fn write_text<L: Language>(
     table: &MeasureTable,
     writer: &mut WordWriter,
 )
-    requires ready { Ready (meaning language.now) tree.now table.now (room_left writer.old) }
+    requires ready { Ready (L.meaning language.now) tree.now table.now (room_left writer.old) }
     requires fresh { writer.old.started ≡ false }
     ensures lender { writer.new.part.ghost_name ≡ writer.old.part.ghost_name }
-    ensures wrote { Wrote (meaning language.now) tree.now writer.old writer.new }
+    ensures wrote { Wrote (L.meaning language.now) tree.now writer.old writer.new }
 {
     let mut frame = Frame {
         place: 0,
@@ -69,8 +69,8 @@ pub(crate) fn write_front<L: Language>(
     language: &L,
     table: &MeasureTable,
 )
-    requires { Ready (meaning language.now) tree.now table.now (length part.old) }
-    ensures { AtFront (meaning language.now) tree.now part.old part.new }
+    requires { Ready (L.meaning language.now) tree.now table.now (length part.old) }
+    ensures { AtFront (L.meaning language.now) tree.now part.old part.new }
 {
     let mut writer = WordWriter::new(part);
     write_text(tree, language, table, &mut writer);

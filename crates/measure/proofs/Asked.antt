@@ -1,5 +1,5 @@
 -- The question on a node's rule: its forms, padded to three, are the forms of its arguments, and its symbols keep the law.
-use Rattle.std.proofs.Common.{◌≡◌, ℕ, zero, suc, ◌<◌, ◌≤◌, true, false, leb, List, [], ◌∷◌, map, length, get_or, Some, None, Option, sym, refl, ap, ◌∙◌, subst, arith}
+use Rattle.std.proofs.Common.{◌≡◌, ℕ, ◌≤◌, leb, List, [], ◌∷◌, map, length, Some, None, Option, sym, refl, ap, ◌∙◌, subst, arith}
 use Rattle.std.specs.List.{slice_get, AllByRecursion as All}
 use Rattle.std.specs.Option.{option_map}
 use Rattle.std.proofs.lemmas.List.{length-map}
@@ -8,11 +8,11 @@ use Rattle.grammar.proofs.Nth.{all_nth, nth_below}
 use Rattle.grammar.proofs.Optional.{none_some}
 use Rattle.grammar.specs.declared.symbol.Symbol.{Symbol}
 use Rattle.grammar.specs.declared.symbol.Symbol.TheVariants.{Word, Reference}
-use Rattle.grammar.specs.Languages.{FunctionLawful, Lawful, Meaning, Rule, RuleLawful, SymbolLawful, Words}
-use Rattle.grammar.specs.Linearization.{Said, linearized, linearized_all, said_form, by_rule}
+use Rattle.grammar.specs.Languages.{FunctionLawful, Lawful, Meaning, Rule, SymbolLawful}
+use Rattle.grammar.specs.Linearization.{Said, linearized, linearized_all, said_form}
 use Rattle.grammar.specs.Questions.{asked, at, key_of, function_arguments, forms_of, with_first, rule_at, sequence_at, sequence_answer, symbol_answer}
 use Rattle.grammar.specs.Signatures.{Function, Signature}
-use Rattle.grammar.specs.Trees.{Tree, Trees, HasCategory, HaveCategories}
+use Rattle.grammar.specs.Trees.{Tree, Trees, HaveCategories}
 use Rattle.grammar.specs.Trees.Tree.{node}
 use Rattle.grammar.specs.Trees.Trees.{none, more}
 use Rattle.saying.proofs.Muteness.{node_parts, more_parts}

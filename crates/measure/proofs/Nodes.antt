@@ -1,14 +1,14 @@
 -- A node's measure, from the row of its arguments.
-use Rattle.std.proofs.Common.{◌≡◌, ℕ, zero, suc, ◌+◌, ◌*◌, ◌^◌, ◌<◌, ◌≤◌, Bool, true, false, not, ◌&&◌, List, [], ◌∷◌, ◌++◌, map, length, get_or, is_some, Some, None, Option, sym, refl, ap, ◌∙◌, subst, arith}
-use Rattle.std.specs.List.{slice_get, AllByRecursion as All}
+use Rattle.std.proofs.Common.{◌≡◌, ℕ, zero, suc, ◌+◌, ◌^◌, ◌≤◌, Bool, true, false, not, ◌&&◌, List, [], ◌∷◌, map, get_or, is_some, Some, None, Option, sym, refl, ap, ◌∙◌, subst, arith}
+use Rattle.std.specs.List.{AllByRecursion as All}
 use Rattle.std.specs.Option.{option_map}
 use Rattle.grammar.proofs.Optional.{none_some}
 use Rattle.grammar.specs.declared.signature.Arguments.{Arguments}
-use Rattle.grammar.specs.Languages.{Lawful, Meaning, Rule}
-use Rattle.grammar.specs.Linearization.{Said, apply_rule, linearized, linearized_all, nothing_said, said_form, said_node}
+use Rattle.grammar.specs.Languages.{Lawful, Meaning}
+use Rattle.grammar.specs.Linearization.{Said, apply_rule, linearized_all, nothing_said, said_form, said_node}
 use Rattle.grammar.specs.Questions.{argument_list, arguments_answer, asked, function_arguments}
 use Rattle.grammar.specs.Signatures.{Signature}
-use Rattle.grammar.specs.Trees.{Tree, Trees, codes, deepest, HaveCategories}
+use Rattle.grammar.specs.Trees.{Tree, Trees, deepest, HaveCategories}
 use Rattle.grammar.specs.Trees.Tree.{node}
 use Rattle.saying.specs.Mute.{RowAt}
 use Rattle.saying.proofs.Lengths.{AllBounded, Bounded, power_mono, read_all, trees_bounded}
@@ -16,7 +16,6 @@ use Rattle.saying.proofs.Places.{arguments_at}
 use Rattle.measure.specs.declared.kinds.Measure.{Measure}
 use Rattle.measure.specs.declared.kinds.NodeMeasure.{NodeMeasure}
 use Rattle.measure.specs.declared.kinds.Row.{Row}
-use Rattle.measure.specs.declared.kinds.Size.{Size}
 use Rattle.measure.specs.declared.table.MeasureTable.{MeasureTable}
 use Rattle.measure.specs.Measured.{is_mute, MeasuredFrom, NodeAt, row_measure}
 use Rattle.measure.specs.Sizes.{constituent_size, forms_said, measure_of, node_measure, padded, row_places}

@@ -1,10 +1,10 @@
 -- The row of a node's arguments: none, one, two or three trees side by side, found one after the other.
-use Rattle.std.proofs.Common.{◌≡◌, ℕ, ◌+◌, ◌≤◌, List, [], ◌∷◌, ◌++◌, length, Some, None, Option, sym, refl, ap, ◌∙◌, subst, arith, length-append}
+use Rattle.std.proofs.Common.{◌≡◌, ℕ, ◌+◌, ◌≤◌, List, [], ◌∷◌, ◌++◌, length, Some, None, Option, refl, ap, ◌∙◌, arith, length-append}
 use Rattle.std.specs.Option.{option_map}
 use Rattle.grammar.specs.Languages.{Meaning}
-use Rattle.grammar.specs.Linearization.{Said, linearized, linearized_all, nothing_said, said_more}
+use Rattle.grammar.specs.Linearization.{Said, linearized, nothing_said, said_more}
 use Rattle.grammar.specs.Signatures.{Signature}
-use Rattle.grammar.specs.Trees.{Tree, Trees, code, codes, HaveCategories}
+use Rattle.grammar.specs.Trees.{Tree, Trees, code, HaveCategories}
 use Rattle.grammar.specs.Trees.Tree.{node}
 use Rattle.grammar.specs.Trees.Trees.{none, more}
 use Rattle.saying.specs.Mute.{At, RowAt}
@@ -13,7 +13,7 @@ use Rattle.measure.specs.declared.kinds.NodeMeasure.{NodeMeasure}
 use Rattle.measure.specs.declared.kinds.Row.{Row}
 use Rattle.measure.specs.declared.table.MeasureTable.{MeasureTable}
 use Rattle.measure.specs.Measured.{measured_at, MeasuredFrom, row_measure}
-use Rattle.measure.specs.Sizes.{measure_of, node_measure, padded, row_places}
+use Rattle.measure.specs.Sizes.{measure_of, node_measure}
 use Rattle.measure.specs.Sums.{all_three, argument_measures}
 
 -- what a node's measure says of its tree

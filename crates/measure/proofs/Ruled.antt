@@ -1,12 +1,12 @@
 -- What a rule makes of its arguments' measures is the measure of what it says.
-use Rattle.std.proofs.Common.{◌≡◌, ℕ, zero, suc, List, [], ◌∷◌, map, get_or, Some, None, Option, sym, refl, ap, ◌∙◌, subst, arith}
+use Rattle.std.proofs.Common.{◌≡◌, ℕ, zero, suc, List, [], ◌∷◌, map, get_or, Some, None, Option, refl, ap, ◌∙◌, arith}
 use Rattle.std.specs.List.{slice_get, flat_map}
 use Rattle.std.specs.Option.{option_map}
-use Rattle.grammar.specs.declared.symbol.RuleForm.TheVariants.{Form, Missing}
+use Rattle.grammar.specs.declared.symbol.RuleForm.TheVariants.{Form}
 use Rattle.grammar.specs.declared.symbol.Symbol.{Symbol}
 use Rattle.grammar.specs.Languages.{Meaning, Rule, Words}
 use Rattle.grammar.specs.Linearization.{Said, apply_rule, by_rule, said_form, symbol_words}
-use Rattle.grammar.specs.Questions.{asked, form_or_lack, rule_answer, rule_at, sequence_answer, sequence_at}
+use Rattle.grammar.specs.Questions.{asked, form_or_lack, rule_answer, rule_at, sequence_at}
 use Rattle.measure.specs.declared.kinds.Measure.{Measure}
 use Rattle.measure.specs.declared.kinds.Size.{Size}
 use Rattle.measure.specs.Sizes.{constituent_size, measure_of, size_of}

@@ -1,9 +1,9 @@
 -- The scan from the right: one node more, and the first mute node among those met.
-use Rattle.std.proofs.Common.{◌≡◌, ℕ, zero, suc, ◌+◌, ◌-◌, ◌*◌, ◌<◌, ◌≤◌, max, Bool, true, false, not, ◌&&◌, ◌⊎◌, List, [], ◌∷◌, ◌++◌, map, length, get_or, set, is_some, Some, None, Option, sym, refl, ap, ◌∙◌, subst, inl, inr, ⊎_elim, mul-le-mul_right, arith, length-append}
+use Rattle.std.proofs.Common.{◌≡◌, ℕ, zero, suc, ◌+◌, ◌-◌, ◌*◌, ◌<◌, ◌≤◌, Bool, true, false, not, ◌&&◌, List, map, length, get_or, set, is_some, Some, None, Option, sym, refl, ap, ◌∙◌, subst, ⊎_elim, mul-le-mul_right, arith, length-append}
 use Rattle.std.specs.List.{slice_get}
 use Rattle.std.proofs.lemmas.List.{get_or-set_other, get_or-set_same}
-use Rattle.std.proofs.lemmas.Bool.{cases_Bool, cases_lt, false≢true, true≢false}
-use Rattle.grammar.proofs.Optional.{none_some, no_value}
+use Rattle.std.proofs.lemmas.Bool.{cases_lt, false≢true}
+use Rattle.grammar.proofs.Optional.{none_some}
 use Rattle.grammar.specs.Languages.{FunctionLawful, Lawful, Meaning, Rule}
 use Rattle.grammar.specs.Linearization.{Said, apply_rule, linearized, linearized_all, said_form, said_node}
 use Rattle.grammar.specs.Trees.{Tree, Trees, code, codes, depth, deepest, HasCategory, HaveCategories}
@@ -16,7 +16,7 @@ use Rattle.saying.proofs.Places.{at_byte, at_category, at_depth, at_one, at_some
 use Rattle.tree.specs.Codes.{IsTree}
 use Rattle.measure.specs.declared.kinds.NodeMeasure.{NodeMeasure}
 use Rattle.measure.specs.declared.table.MeasureTable.{MeasureTable}
-use Rattle.measure.specs.Measured.{is_mute, measured_at, measures, MeasuredFrom, NodeAt}
+use Rattle.measure.specs.Measured.{is_mute, measures, MeasuredFrom, NodeAt}
 use Rattle.measure.specs.Scanned.{Scanned}
 use Rattle.measure.specs.Sizes.{node_measure, unmeasured}
 use Rattle.grammar.proofs.Nth.{all_nth}

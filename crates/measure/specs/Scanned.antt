@@ -1,5 +1,5 @@
 -- What the scan of a code from the right has found from a place on, and what measuring a tree answers.
-use Rattle.std.specs.Prelude.{◌≡◌, ℕ, ◌≤◌, Some, None, Ok, Err, Option, Result}
+use Rattle.std.specs.Prelude.{◌≡◌, ℕ, ◌≤◌, Some, Ok, Err, Option, Result}
 use Rattle.fault.specs.declared.kinds.SayFault.{SayFault}
 use Rattle.fault.specs.declared.kinds.SayFault.TheVariants.{OtherSignature, Mute, NoRoom}
 use Rattle.grammar.specs.Languages.{Meaning}

@@ -37,7 +37,7 @@ fn rule_measure<L: Language>(
     arguments: &[Measure; 3],
 ) -> Option<Measure>
     requires { ArgumentSizes arguments.now }
-    ensures { (all : List Said) → arguments.now ≡ argument_measures all → asked (meaning language.now) function forms ≡ Some (map said_form all) → result ≡ option_map measure_of (apply_rule (meaning language.now) all ((meaning language.now).rule function (map said_form all))) }
+    ensures { (all : List Said) → arguments.now ≡ argument_measures all → asked (L.meaning language.now) function forms ≡ Some (map said_form all) → result ≡ option_map measure_of (apply_rule (L.meaning language.now) all ((L.meaning language.now).rule function (map said_form all))) }
 {
     match language.rule(function, forms)? {
         RuleForm::Missing => None,
@@ -113,8 +113,8 @@ pub(crate) fn node_at<L: Language>(
     function: u8,
 ) -> (NodeMeasure, bool)
     requires within { place < 364 }
-    requires ready { (t : Tree) × (ts : Trees) × NodeAt (meaning language.now) t place function ts table.now }
-    ensures { (t : Tree) (ts : Trees) → NodeAt (meaning language.now) t place function ts table.now → result ≡ (node_measure (meaning language.now) place (node function ts), is_mute (meaning language.now) (node function ts)) }
+    requires ready { (t : Tree) × (ts : Trees) × NodeAt (L.meaning language.now) t place function ts table.now }
+    ensures { (t : Tree) (ts : Trees) → NodeAt (L.meaning language.now) t place function ts table.now → result ≡ (node_measure (L.meaning language.now) place (node function ts), is_mute (L.meaning language.now) (node function ts)) }
 {
     let Some(arguments) = language.arguments(function) else {
         return (table.at(place), false);

@@ -13,8 +13,8 @@ use tree::code::TreeCode;
 
 // Measures each node, the last one first, and answers the first mute node.
 fn scan<L: Language>(tree: &TreeCode, language: &L, table: &mut MeasureTable) -> Option<usize>
-    requires { tree_signature tree.now ≡ (meaning language.now).signature }
-    ensures { (t : Tree) → IsTree (meaning language.now).signature (bytes_of tree.now) t → Scanned (meaning language.now) t 0 table.new result }
+    requires { tree_signature tree.now ≡ (L.meaning language.now).signature }
+    ensures { (t : Tree) → IsTree (L.meaning language.now).signature (bytes_of tree.now) t → Scanned (L.meaning language.now) t 0 table.new result }
 {
     let mut mute = None;
     for place in (0..tree.len()).rev() {
@@ -31,7 +31,7 @@ fn scan<L: Language>(tree: &TreeCode, language: &L, table: &mut MeasureTable) ->
 
 // The measures of the tree's nodes in the language; refused where the language has another signature, or a node is mute.
 pub fn measure<L: Language>(tree: &TreeCode, language: &L) -> Result<MeasureTable, SayFault>
-    ensures { MeasuredAs (meaning language.now) tree.now result }
+    ensures { MeasuredAs (L.meaning language.now) tree.now result }
 {
     if !tree.is_of(language) {
         return Err(SayFault::OtherSignature);

@@ -10,7 +10,7 @@ use grammar::symbol::Symbol;
 
 // How many bytes a word has; a word that is not there has none.
 fn word_bytes<L: Language>(language: &L, word: u16) -> u32
-    ensures bytes { result ≡ length (slice_index_or (meaning language.now).words word []) }
+    ensures bytes { result ≡ length (slice_index_or (L.meaning language.now).words word []) }
     ensures few { result ≤ 255 }
 {
     match language.word_length(word) {
@@ -24,7 +24,7 @@ fn symbol_size<L: Language>(language: &L, arguments: &[Measure; 3], symbol: Symb
     requires range { InRange symbol }
     requires sizes { ArgumentSizes arguments.now }
     ensures small { ArgumentSize result }
-    ensures size { (all : List Said) → arguments.now ≡ argument_measures all → result ≡ size_of (symbol_words (meaning language.now) all symbol) }
+    ensures size { (all : List Said) → arguments.now ≡ argument_measures all → result ≡ size_of (symbol_words (L.meaning language.now) all symbol) }
 {
     match symbol {
         Symbol::Word(word) => Size {
@@ -59,7 +59,7 @@ pub(crate) fn sequence_size<L: Language>(
     arguments: &[Measure; 3],
 ) -> Size
     requires { ArgumentSizes arguments.now }
-    ensures { (all : List Said) → arguments.now ≡ argument_measures all → result ≡ size_of (sequence_words (meaning language.now) all function forms constituent) }
+    ensures { (all : List Said) → arguments.now ≡ argument_measures all → result ≡ size_of (sequence_words (L.meaning language.now) all function forms constituent) }
 {
     let mut size = Size { words: 0, bytes: 0 };
     if let Some(count) = language.sequence_length(function, forms, constituent) {

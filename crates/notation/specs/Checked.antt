@@ -5,7 +5,7 @@ use Rattle.std.specs.List.{slice_get}
 use Rattle.std.specs.Option.{option_map}
 use Rattle.std.proofs.lemmas.Option.{slice_get-get_or}
 use Rattle.std.proofs.lemmas.Bool.{leb-true, le-leb}
-use Rattle.std.proofs.lemmas.Bool.Decides.{Decides-and, Decides-ltb, DecidesLike}
+use Rattle.std.proofs.lemmas.Bool.Decides.{Decides-and, Decides-ltb, Decides-like}
 use Rattle.std.proofs.ByRecursion.{Decides-by_and}
 use Rattle.grammar.specs.declared.signature.Arguments.TheVariants.{Zero}
 use Rattle.grammar.specs.declared.signature.FunctionType.{FunctionType}
@@ -21,7 +21,7 @@ decides_leb a b = (leb-true a b, le-leb a b)
 
 function_decided : (s : Signature) (f : Function) → Decides (function_fits s.categories f) (FunctionLawful s f)
 function_decided s f =
-    DecidesLike (function_fits s.categories f)
+    Decides-like (function_fits s.categories f)
     (λ h. record { result_range = h.0; arity_range = h.1.0; argument_range = h.1.1 })
     (λ h. (h.result_range, (h.arity_range, h.argument_range)))
     (Decides-and _ _ (Decides-ltb f.result s.categories)
@@ -30,7 +30,7 @@ function_decided s f =
 
 pub lawful_decided : (s : Signature) → Decides (is_lawful s) (SignatureLawful s)
 lawful_decided s =
-    DecidesLike (is_lawful s)
+    Decides-like (is_lawful s)
     (λ h. record {
       some_category = h.0.0.0.0.0;
       category_range = h.0.0.0.0.1;

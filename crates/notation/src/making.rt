@@ -12,7 +12,7 @@ use grammar::signature::SignatureTable;
 impl Notation {
     // The notation for the signature of a language.
     pub fn of<L: Language>(language: &L) -> Notation
-        ensures { signature_in result ≡ (meaning language.now).signature }
+        ensures { signature_in result ≡ (L.meaning language.now).signature }
     {
         let signature = SignatureTable::of(language);
         Notation { signature }

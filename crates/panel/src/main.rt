@@ -1,4 +1,6 @@
 // The panel's program: it prints what an image from a file states, says a tree in its language, or works on the built-in small port.
+#![tactic(auto)]
+
 mod builtin;
 mod command;
 mod file;

@@ -7,7 +7,7 @@ use grammar::language::Language;
 
 // Whether the bytes are those of a word of the language.
 pub(crate) fn is_word<L: Language>(language: &L, word: u16, bytes: &[u8]) -> bool
-    ensures { Decides result (slice_get (meaning language.now).words word ≡ Some bytes.now) }
+    ensures { Decides result (slice_get (L.meaning language.now).words word ≡ Some bytes.now) }
 {
     match language.word_length(word) {
         Some(length) => {
@@ -32,7 +32,7 @@ pub(crate) fn is_word<L: Language>(language: &L, word: u16, bytes: &[u8]) -> boo
 
 // Whether the language has a word of these bytes.
 pub(crate) fn has_word<L: Language>(language: &L, bytes: &[u8]) -> bool
-    ensures { Decides result (Holds (meaning language.now).words bytes.now) }
+    ensures { Decides result (Holds (L.meaning language.now).words bytes.now) }
 {
     for word in 0..language.words() {
         if is_word(language, word, bytes) {

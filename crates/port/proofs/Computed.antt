@@ -6,7 +6,6 @@ use Rattle.grammar.specs.Languages.{Words}
 use Rattle.grammar.specs.Lists.{Holds}
 use Rattle.grammar.specs.DraftWalk.{draft_walk}
 use Rattle.grammar.specs.PhraseWalk.{read_phrase}
-use Rattle.grammar.specs.Readings.{FullList}
 use Rattle.grammar.specs.Trees.{Tree}
 use Rattle.std.specs.Fmt.{digits}
 use Rattle.port.specs.Cases.{WorkedCases, Lists, anything}

@@ -9,7 +9,6 @@ use Rattle.refusals.specs.Refusals.{refuse}
 use Rattle.fault.specs.Refusals.{tree_refusal, phrase_refusal, say_refusal}
 use Rattle.grammar.specs.Charts.{Counts}
 use Rattle.grammar.specs.Drafts.{Draft}
-use Rattle.grammar.specs.Drafts.Draft.{hole}
 use Rattle.grammar.specs.DraftWalk.{draft_walk, depth_check}
 use Rattle.grammar.specs.Languages.{Meaning, Words}
 use Rattle.grammar.specs.PhraseWalk.{read_phrase}

@@ -1,4 +1,6 @@
 // The small port: its worked cases as one theorem, and its two languages as images.
+#![tactic(auto)]
+
 ghost use Rattle.port.specs.Cases.{WorkedCases};
 
 pub mod images;

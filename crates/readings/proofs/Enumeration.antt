@@ -1,10 +1,10 @@
 -- All trees of a category within a depth, in tree order, and the readings among them.
-use Rattle.std.proofs.Common.{◌≡◌, ℕ, zero, suc, ◌+◌, ◌<◌, ◌≤◌, max, Bool, true, false, cond, ◌&&◌, eqb, ◌⊎◌, ◌↔◌, List, [], ◌∷◌, ◌++◌, map, Some, None, Decides, filter, Option, sym, refl, ap, ◌∙◌, subst, inl, inr, ⊎_elim, arith}
-use Rattle.std.specs.List.{slice_get, flat_map, AllByRecursion as All}
+use Rattle.std.proofs.Common.{◌≡◌, ℕ, zero, suc, ◌+◌, ◌≤◌, Bool, true, false, cond, ◌&&◌, eqb, List, [], ◌∷◌, ◌++◌, map, Some, None, Decides, filter, Option, sym, refl, ap, ◌∙◌, subst, inl, ⊎_elim, arith}
+use Rattle.std.specs.List.{slice_get, flat_map}
 use Rattle.std.specs.Str.{bytes_eq}
 use Rattle.std.proofs.lemmas.Slice.Eq.{bytes_eq-Decides}
 use Rattle.std.proofs.lemmas.Bool.{eqb-true, eq-eqb, false≢true}
-use Rattle.std.proofs.lemmas.Bool.Decides.{Decides-and, Decides-eqb, DecidesLike}
+use Rattle.std.proofs.lemmas.Bool.Decides.{Decides-and, Decides-eqb, Decides-like}
 use Rattle.grammar.specs.Drafts.{Draft, Drafts, Completes, CompleteAll}
 use Rattle.grammar.specs.Drafts.Draft.{hole, built}
 use Rattle.grammar.specs.Drafts.Drafts.{nil, cons}
@@ -12,14 +12,14 @@ use Rattle.grammar.specs.Languages.{Meaning, Words}
 use Rattle.grammar.specs.Linearization.{Said, linearized, Linearizes, main_constituent}
 use Rattle.grammar.specs.Lists.{Holds}
 use Rattle.grammar.specs.Order.{Ascending, Before}
-use Rattle.grammar.specs.Readings.{Reading, FullList}
+use Rattle.grammar.specs.Readings.{FullList}
 use Rattle.grammar.specs.Signatures.{Signature, Function}
 use Rattle.grammar.specs.Trees.{Tree, Trees, code, depth, deepest, HasCategory, HaveCategories}
 use Rattle.grammar.specs.Trees.Tree.{node}
 use Rattle.grammar.specs.Trees.Trees.{none, more}
 use Rattle.readings.specs.Laws.{FullListExists}
 use Rattle.readings.proofs.Codes.{Precedes, PrecedeAll, precedes_before, lower_root, same_root, earlier_first, same_first}
-use Rattle.readings.proofs.Membership.{Pairwise, holds_left, holds_right, holds_cases, holds_map, map_holds, holds_joined, joined_holds, holds_kept, kept_holds, pairwise_append, pairwise_map, pairwise_kept, pairwise_weaker, all_holds, holds_all}
+use Rattle.readings.proofs.Membership.{Pairwise, holds_left, holds_right, holds_cases, holds_map, map_holds, holds_joined, joined_holds, holds_kept, kept_holds, pairwise_append, pairwise_map, pairwise_kept, pairwise_weaker, all_holds}
 
 -- all ways to put a tree beside trees
 abbrev pub beside : List Trees → Tree → List Trees
@@ -201,7 +201,7 @@ same_words_decides [] [] = (λ e. refl, λ h. refl)
 same_words_decides [] (v ∷ vs) = (λ e. absurd (false≢true e), λ h. let z : ◌≡◌ {A = ℕ} 0 1 = cc in absurd (omega arith))
 same_words_decides (w ∷ ws) [] = (λ e. absurd (false≢true e), λ h. let z : ◌≡◌ {A = ℕ} 0 1 = cc in absurd (omega arith))
 same_words_decides (w ∷ ws) (v ∷ vs) =
-    DecidesLike (bytes_eq w v && same_words ws vs) (λ p i. p.0 i ∷ p.1 i) (λ e. (let h : w ≡ v = cc in h, let h : ws ≡ vs = cc in h))
+    Decides-like (bytes_eq w v && same_words ws vs) (λ p i. p.0 i ∷ p.1 i) (λ e. (let h : w ≡ v = cc in h, let h : ws ≡ vs = cc in h))
     (Decides-and (bytes_eq w v) (same_words ws vs) (bytes_eq-Decides w v) (same_words_decides ws vs))
 
 -- whether what is said is the phrase
@@ -212,7 +212,7 @@ saying (Some s) phrase = same_words (main_constituent s) phrase
 saying_decides : (o : Option Said) (phrase : Words) → Decides (saying o phrase) ((s : Said) × (o ≡ Some s) × (main_constituent s ≡ phrase))
 saying_decides None phrase = (λ e. absurd (false≢true e), λ h. let e = h.1 in let z : ◌≡◌ {A = ℕ} 0 1 = cc in absurd (omega arith))
 saying_decides (Some s) phrase =
-    DecidesLike (same_words (main_constituent s) phrase) (λ e. (s, refl, e)) (λ h. let e = h.1 in let same : s ≡ h.0 = cc in ap main_constituent same ∙ h.2)
+    Decides-like (same_words (main_constituent s) phrase) (λ e. (s, refl, e)) (λ h. let e = h.1 in let same : s ≡ h.0 = cc in ap main_constituent same ∙ h.2)
     (same_words_decides (main_constituent s) phrase)
 
 -- whether a tree of the start category within the depth is a reading

@@ -1,5 +1,5 @@
 -- A full list is the only one.
-use Rattle.std.proofs.Common.{◌≡◌, ◌⊎◌, ◌↔◌, List, [], ◌∷◌, sym, refl, ap, ◌∙◌, subst, inl, inr, ⊎_elim}
+use Rattle.std.proofs.Common.{◌≡◌, List, [], ◌∷◌, sym, refl, ◌∙◌, subst, inl, inr, ⊎_elim}
 use Rattle.grammar.specs.Lists.{Holds}
 use Rattle.grammar.specs.Order.{Ascending, Before}
 use Rattle.grammar.specs.Trees.{Tree, code}

@@ -1,4 +1,6 @@
 // The laws of tree order and of full lists, each on the contract of a function that is named for it.
+#![tactic(auto)]
+
 ghost use Rattle.readings.specs.Laws.{OrderIsStrict, OrderIsTotal, CodesTellTreesApart, FullListExists, FullListIsUnique};
 
 // Tree order is irreflexive and transitive.

@@ -7,7 +7,7 @@ use std::fmt;
 
 // A refusal in one line, as a person reads it: number, layer, place and reason.
 pub fn write_line<F: Fault, W: fmt::Write>(fault: &F, f: &mut fmt::Formatter<W>) -> fmt::Result
-    ensures { WritesOnOk write_str_gives f.old result (line (says fault.now) (tells fault.now)) f.new }
+    ensures { WritesOnOk W.write_str_gives f.old result (line (F.says fault.now) (F.tells fault.now)) f.new }
 {
     let number = fault.number();
     let layer = fault.layer().name();

@@ -1,5 +1,5 @@
 -- How long what is said can be.
-use Rattle.std.proofs.Common.{◌≡◌, ℕ, zero, suc, ◌+◌, ◌-◌, ◌*◌, ◌^◌, ◌<◌, ◌≤◌, max, List, [], ◌∷◌, ◌++◌, map, length, get_or, Some, sym, refl, ap, ◌∙◌, subst, mul-le-mul_right, arith, length-append}
+use Rattle.std.proofs.Common.{◌≡◌, ℕ, zero, suc, ◌+◌, ◌-◌, ◌*◌, ◌^◌, ◌≤◌, max, List, [], ◌∷◌, ◌++◌, map, length, get_or, Some, sym, refl, ap, subst, mul-le-mul_right, arith, length-append}
 use Rattle.std.specs.List.{flat_map, AllByRecursion as All}
 use Rattle.std.proofs.ByRecursion.{All-weaker, All-map}
 use Rattle.grammar.specs.declared.symbol.Symbol.{Symbol}
@@ -10,7 +10,7 @@ use Rattle.grammar.specs.Trees.{Tree, Trees, depth, deepest}
 use Rattle.grammar.specs.Trees.Tree.{node}
 use Rattle.grammar.specs.Trees.Trees.{none, more}
 use Rattle.saying.specs.Laws.{ConstituentsAreBounded, TextLengthBySums, TextsAreBounded}
-use Rattle.saying.specs.Sizes.{spelled_bytes, text_length}
+use Rattle.saying.specs.Sizes.{spelled_bytes}
 use Rattle.saying.proofs.Muteness.{node_parts, more_parts}
 
 pub text_length_by_sums : TextLengthBySums

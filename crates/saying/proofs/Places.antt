@@ -1,13 +1,13 @@
 -- Places in a code: the subtree at each, where its arguments stand, and what it has of the whole tree.
-use Rattle.std.proofs.Common.{◌≡◌, ℕ, zero, suc, ◌+◌, ◌-◌, ◌*◌, ◌<◌, ◌≤◌, max, ◌⊎◌, List, [], ◌∷◌, ◌++◌, length, Some, sym, refl, ap, ◌∙◌, subst, inl, inr, ⊎_elim, mul-le-mul_right, mul-le-mul_left, arith, length-append}
+use Rattle.std.proofs.Common.{◌≡◌, ℕ, zero, suc, ◌+◌, ◌-◌, ◌<◌, ◌≤◌, ◌⊎◌, List, [], ◌∷◌, ◌++◌, length, Some, sym, refl, ap, ◌∙◌, subst, inl, inr, arith, length-append}
 use Rattle.std.specs.List.{slice_get}
 use Rattle.std.proofs.lemmas.Bool.{cases_lt}
-use Rattle.grammar.specs.Signatures.{Function, Signature}
+use Rattle.grammar.specs.Signatures.{Signature}
 use Rattle.grammar.specs.Trees.{Tree, Trees, code, codes, depth, deepest, HasCategory, HaveCategories}
 use Rattle.grammar.specs.Trees.Tree.{node}
 use Rattle.grammar.specs.Trees.Trees.{none, more}
 use Rattle.saying.specs.Mute.{At, AtIn, RowAt}
-use Rattle.saying.proofs.Muteness.{at_within, in_within}
+use Rattle.saying.proofs.Muteness.{at_within}
 
 pub at_start : (t : Tree) → At t 0 t
 at_start (node f ts) = inl (refl, refl)

@@ -1,5 +1,5 @@
 -- The laws of saying, over every language: a tree is said or has one first mute node, and how long what is said can be.
-use Rattle.std.specs.Prelude.{◌≡◌, ℕ, ◌+◌, ◌*◌, ◌^◌, ◌≤◌, ◌⊎◌, List, length, Some}
+use Rattle.std.specs.Prelude.{◌≡◌, ℕ, ◌*◌, ◌^◌, ◌≤◌, ◌⊎◌, length, Some}
 use Rattle.std.specs.List.{AllByRecursion as All}
 use Rattle.grammar.specs.Languages.{Lawful, Meaning, Words}
 use Rattle.grammar.specs.Linearization.{Linearizes, Said, linearized, spaced}

@@ -1,5 +1,5 @@
 -- Sizes: how many words a string has, how many bytes these have, and how long their text is.
-use Rattle.std.specs.Prelude.{ℕ, ◌+◌, ◌-◌, List, [], ◌∷◌, length}
+use Rattle.std.specs.Prelude.{ℕ, ◌+◌, ◌-◌, [], ◌∷◌, length}
 use Rattle.grammar.specs.Languages.{Words}
 
 -- the bytes of all words together, blanks left out

@@ -1,4 +1,6 @@
 // The laws of saying, each on the contract of a function that is named for it.
+#![tactic(auto)]
+
 ghost use Rattle.saying.specs.Laws.{SaidOrMute, SaidIsNotMute, FirstMuteIsUnique, TextLengthBySums, ConstituentsAreBounded, TextsAreBounded};
 
 // A tree has a linearization, or a first mute node.

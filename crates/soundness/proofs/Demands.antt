@@ -1,10 +1,9 @@
 -- What the check demands of sound bytes, taken apart.
-use Rattle.std.proofs.Common.{◌≡◌, ℕ, zero, suc, ◌+◌, ◌<◌, ◌≤◌, Bool, true, false, cond, ◌&&◌, leb, List, [], ◌∷◌, ◌++◌, Some, None, Option, sym, refl, ap, ◌∙◌, subst, ⊎_elim, arith}
+use Rattle.std.proofs.Common.{◌≡◌, ℕ, zero, suc, ◌+◌, ◌<◌, ◌≤◌, Bool, true, false, cond, leb, List, [], ◌∷◌, ◌++◌, Some, None, sym, refl, ap, ◌∙◌, subst, ⊎_elim, arith}
 use Rattle.std.specs.List.{range_with_len, flat_map, AllByRecursion as All}
 use Rattle.std.proofs.lemmas.Bool.{leb-true, and_parts, cases_eq}
 use Rattle.grammar.proofs.Optional.{none_some}
-use Rattle.flaw.specs.declared.kinds.ImageFault.{ImageFault}
-use Rattle.demands.specs.Check.{Demand, demand, first_broken, each, every, within}
+use Rattle.demands.specs.Check.{Demand, first_broken, each, every, within}
 
 -- where none of the demands is broken, each is kept
 pub all_kept : (ds : List Demand) → first_broken ds ≡ None → All (λ d. d.kept ≡ true) ds

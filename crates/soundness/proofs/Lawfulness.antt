@@ -1,22 +1,22 @@
 -- The grammar that sound bytes state keeps the law of languages.
-use Rattle.std.proofs.Common.{◌≡◌, ℕ, ◌+◌, ◌-◌, ◌/◌, ◌%◌, ◌<◌, ◌≤◌, Bool, true, false, cond, ◌&&◌, eqb, ltb, leb, ◌⊎◌, List, [], ◌∷◌, length, take, drop, Some, None, Option, sym, refl, ap, ◌∙◌, subst, inl, inr, ⊎_elim, arith}
+use Rattle.std.proofs.Common.{◌≡◌, ℕ, ◌+◌, ◌-◌, ◌/◌, ◌%◌, ◌<◌, ◌≤◌, Bool, true, false, cond, ◌&&◌, eqb, ltb, leb, List, [], ◌∷◌, length, drop, Some, sym, refl, ap, ◌∙◌, subst, inl, inr, ⊎_elim, arith}
 use Rattle.std.specs.List.{slice_get, AllByRecursion as All}
 use Rattle.std.specs.Str.{bytes_eq}
 use Rattle.std.proofs.lemmas.Slice.Eq.{bytes_eq-Decides}
 use Rattle.std.proofs.lemmas.List.{length-take-le, length-drop}
-use Rattle.std.proofs.lemmas.Bool.{leb-true, ltb-true, eqb-true, lt-ltb, and_parts, or_cases, cases_Bool, cond-true, cond-false}
-use Rattle.demands.specs.Check.{image_check, all_permitted, symbol_sound}
+use Rattle.std.proofs.lemmas.Bool.{leb-true, ltb-true, eqb-true, lt-ltb, and_parts, or_cases, cond-true}
+use Rattle.demands.specs.Check.{all_permitted, symbol_sound}
 use Rattle.view.specs.Grammar.{listing, image_function, image_meaning, rule_entry, sequence, symbol_of}
-use Rattle.view.specs.Layout.{categories, functions, words, rules, symbols, spelled, spelled_from, total, dimension, result, arity, argument, word_offset, word_length, spelling, rule_function, argument_form, first_symbol, symbol_count, rule_arity, rule_dimension, symbol_bits}
+use Rattle.view.specs.Layout.{categories, functions, words, rules, symbols, spelled_from, dimension, result, arity, argument, word_offset, word_length, spelling, rule_function, argument_form, first_symbol, symbol_count, rule_arity, rule_dimension, symbol_bits}
 use Rattle.grammar.specs.declared.symbol.Symbol.{Symbol}
-use Rattle.grammar.specs.Languages.{Meaning, Rule, Lawful, RuleLawful, SymbolLawful, FunctionLawful, Permitted}
+use Rattle.grammar.specs.Languages.{Rule, Lawful, RuleLawful, SymbolLawful, FunctionLawful, Permitted}
 use Rattle.grammar.specs.Lists.{Holds}
 use Rattle.grammar.specs.PhraseWalk.{permitted}
 use Rattle.grammar.specs.RuleTables.{Entry, from_table}
 use Rattle.grammar.specs.Signatures.{Function}
 use Rattle.soundness.specs.Laws.{SoundImagesAreLawful}
 use Rattle.soundness.proofs.Listings.{listing_length, listing_nth, listing_all, listing_holds}
-use Rattle.soundness.proofs.Sound.{Sound, SoundWord, SoundRule, SoundFunction, sound}
+use Rattle.soundness.proofs.Sound.{Sound, sound}
 
 permitted_told : (c : ℕ) → permitted c ≡ true → Permitted c
 permitted_told c e =

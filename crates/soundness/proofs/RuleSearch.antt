@@ -1,18 +1,17 @@
 -- Finding a rule by its key: the table's rule for a function and forms is that of the one entry with that key.
-use Rattle.std.proofs.Common.{◌≡◌, ℕ, zero, suc, ◌+◌, ◌<◌, ◌≤◌, Bool, true, false, cond, ◌&&◌, eqb, ltb, leb, ◌⊎◌, List, [], ◌∷◌, map, length, Some, None, Option, sym, refl, ap, ◌∙◌, subst, inl, inr, ⊎_elim, arith}
+use Rattle.std.proofs.Common.{◌≡◌, ℕ, zero, suc, ◌+◌, ◌<◌, ◌≤◌, Bool, true, false, cond, ◌&&◌, eqb, ltb, leb, List, [], ◌∷◌, map, Some, None, Option, sym, refl, ap, ◌∙◌, subst, ⊎_elim, arith}
 use Rattle.std.specs.List.{range_with_len}
 use Rattle.std.specs.Str.{bytes_eq}
 use Rattle.std.proofs.lemmas.Slice.Eq.{bytes_eq-Decides}
-use Rattle.std.proofs.lemmas.Bool.{eqb-true, eq-eqb, and_parts, and_from, cases_order, cases_Bool, both_ways, le-ltb, cond-false}
-use Rattle.demands.specs.Check.{rises, form_sound}
+use Rattle.std.proofs.lemmas.Bool.{eqb-true, eq-eqb, and_parts, and_from, cases_order, both_ways, le-ltb, cond-false}
+use Rattle.demands.specs.Check.{rises}
 use Rattle.view.specs.Grammar.{key, listing, rule_entry, image_meaning}
 use Rattle.view.specs.Layout.{byte, rules, rule_at, rule_function, argument_form, rule_arity, arity}
 use Rattle.grammar.proofs.Optional.{none_some}
-use Rattle.grammar.specs.Languages.{Rule}
 use Rattle.grammar.specs.Questions.{forms_of, with_first}
 use Rattle.grammar.specs.RuleTables.{Entry, from_table}
 use Rattle.soundness.proofs.KeyOrder.{rising, rises_not_itself}
-use Rattle.soundness.proofs.Sound.{Sound, SoundRule}
+use Rattle.soundness.proofs.Sound.{Sound}
 
 -- whether an entry is the one for the function and the forms
 abbrev matching : ℕ → List ℕ → Entry → Bool

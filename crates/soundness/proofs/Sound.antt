@@ -1,7 +1,7 @@
 -- What is known of an image's bytes once the check has found them sound.
-use Rattle.std.proofs.Common.{◌≡◌, ℕ, zero, suc, ◌+◌, ◌-◌, ◌/◌, ◌%◌, ◌<◌, ◌≤◌, Bool, true, cond, ◌&&◌, eqb, ltb, leb, List, ◌++◌, length, None, arith}
+use Rattle.std.proofs.Common.{◌≡◌, ℕ, zero, suc, ◌+◌, ◌<◌, ◌≤◌, true, cond, eqb, ltb, List, ◌++◌, length, None, arith}
 use Rattle.std.proofs.lemmas.Bool.{leb-true, ltb-true, eqb-true, and_parts}
-use Rattle.demands.specs.Check.{first_broken, each, image_check, demands, mark_demands, head_demands, dimension_demands, function_demands, argument_demand, word_demands, rule_demands, use_demands, symbol_demands, form_sound, constituent_sound, word_sound, rule_sound, symbol_sound, key_rises, all_permitted, every, within}
+use Rattle.demands.specs.Check.{first_broken, each, image_check, mark_demands, head_demands, dimension_demands, function_demands, argument_demand, word_demands, rule_demands, use_demands, symbol_demands, form_sound, constituent_sound, symbol_sound, key_rises, all_permitted}
 use Rattle.view.specs.Layout.{categories, functions, start, words, rules, symbols, spelled, total, dimension, result, arity, argument, word_offset, word_length, spelling, rule_function, result_form, first_symbol, symbol_count, rule_dimension, symbol_bits}
 use Rattle.soundness.proofs.Demands.{all_kept, kept_parts, kept_each, every_true, within_true}
 

@@ -1,4 +1,6 @@
 // The law of images, on the contract of a function that is named for it.
+#![tactic(auto)]
+
 ghost use Rattle.soundness.specs.Laws.{SoundImagesAreLawful};
 
 // The grammar that sound bytes state keeps the law of languages.

@@ -1,4 +1,6 @@
 // A stack of plain values over cells that are lent to it: no allocation, and each call takes constant time.
+#![tactic(auto)]
+
 ghost use Rattle.std.specs.Prelude.{◌≤◌, length};
 
 mod count;

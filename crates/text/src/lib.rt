@@ -1,2 +1,4 @@
 // Phrases as text: the reader that hands out a phrase's words.
+#![tactic(auto)]
+
 pub mod reader;

@@ -1,11 +1,11 @@
 -- Lists with the same elements are the same, and a signature tells its table's functions.
-use Rattle.std.proofs.Common.{◌≡◌, ℕ, zero, suc, ◌<◌, List, [], ◌∷◌, map, length, Some, sym, refl, ap, ◌∙◌, arith}
+use Rattle.std.proofs.Common.{◌≡◌, ℕ, suc, ◌<◌, List, [], ◌∷◌, map, length, sym, refl, ap, ◌∙◌, arith}
 use Rattle.std.specs.List.{slice_get}
 use Rattle.grammar.specs.declared.signature.Arguments.{Arguments}
 use Rattle.grammar.specs.declared.signature.Arguments.TheVariants.{Zero, One, Two, Three}
 use Rattle.grammar.specs.declared.signature.FunctionType.{FunctionType}
 use Rattle.grammar.specs.Questions.{argument_list}
-use Rattle.grammar.specs.Signatures.{Function, Signature}
+use Rattle.grammar.specs.Signatures.{Function}
 use Rattle.grammar.specs.Tables.{typed}
 
 pub same_elements : {A : Type 0} (xs ys : List A) → length xs ≡ length ys → ((i : ℕ) → i < length xs → slice_get xs i ≡ slice_get ys i) → xs ≡ ys

@@ -1,4 +1,6 @@
 // Worked examples that are run: tests have a crate of their own, since a crate with tests is proved twice.
+#![tactic(auto)]
+
 #[cfg(test)]
 mod drafts;
 #[cfg(test)]

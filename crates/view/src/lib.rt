@@ -1,4 +1,6 @@
 // The bytes of an image, with the places where its sections begin.
+#![tactic(auto)]
+
 ghost use Rattle.std.specs.Prelude.{◌≡◌, ◌^◌, ◌<◌};
 ghost use Rattle.view.specs.Layout.{functions_from, words_from, rules_from, symbols_from, spelled_from};
 

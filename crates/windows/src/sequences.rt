@@ -15,8 +15,8 @@ use phrase::words::Phrase;
 
 // A word of the language, by its number; false if it is not in the phrase, or the string would be longer than the phrase.
 fn push_word<L: Language>(places: &mut Places, language: &L, phrase: &Phrase, word: u16) -> bool
-    requires { word < length (meaning language.now).words }
-    ensures { Added (words_of phrase.now) (string_of (words_of phrase.now) places.old) (Some (slice_index_or (meaning language.now).words word [] ∷ [])) result (string_of (words_of phrase.now) places.new) }
+    requires { word < length (L.meaning language.now).words }
+    ensures { Added (words_of phrase.now) (string_of (words_of phrase.now) places.old) (Some (slice_index_or (L.meaning language.now).words word [] ∷ [])) result (string_of (words_of phrase.now) places.new) }
 {
     match phrase.place_of(language, word) {
         Some(place) => places.push(phrase, place),
@@ -32,8 +32,8 @@ fn push_symbol<L: Language>(
     arguments: &[[Window; 4]; 3],
     symbol: Symbol,
 ) -> bool
-    requires { Named (meaning language.now) symbol }
-    ensures { (items : List Item) → arguments.now ≡ argument_windows items → Added (words_of phrase.now) (string_of (words_of phrase.now) places.old) (symbol_string (meaning language.now) (words_of phrase.now) items symbol) result (string_of (words_of phrase.now) places.new) }
+    requires { Named (L.meaning language.now) symbol }
+    ensures { (items : List Item) → arguments.now ≡ argument_windows items → Added (words_of phrase.now) (string_of (words_of phrase.now) places.old) (symbol_string (L.meaning language.now) (words_of phrase.now) items symbol) result (string_of (words_of phrase.now) places.new) }
 {
     match symbol {
         Symbol::Word(word) => push_word(places, language, phrase, word),
@@ -53,7 +53,7 @@ pub fn sequence_window<L: Language>(
     constituent: u8,
     arguments: &[[Window; 4]; 3],
 ) -> Window
-    ensures { (items : List Item) → arguments.now ≡ argument_windows items → IsWindowOf (words_of phrase.now) (sequence_string (meaning language.now) (words_of phrase.now) items (or_no_symbols (sequence_answer (meaning language.now) function forms constituent))) result }
+    ensures { (items : List Item) → arguments.now ≡ argument_windows items → IsWindowOf (words_of phrase.now) (sequence_string (L.meaning language.now) (words_of phrase.now) items (or_no_symbols (sequence_answer (L.meaning language.now) function forms constituent))) result }
 {
     let mut places = Places::new();
     if let Some(count) = language.sequence_length(function, forms, constituent) {

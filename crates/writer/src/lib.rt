@@ -1,4 +1,6 @@
 // The word writer over a lent part of a page, and the fault of a text that does not fit its page.
+#![tactic(auto)]
+
 ghost use Rattle.std.specs.Prelude.{◌≡◌, ◌≤◌, false, length};
 
 mod page;

@@ -21,7 +21,7 @@ impl EdgeTable {
     ) -> bool
         requires few { length starts.now ≤ 3 }
         requires chains { (chains : List (List ℕ)) × Chains index.now.next starts.now chains }
-        ensures { (chains : List (List ℕ)) (ks : List ℕ) → Chains index.now.next starts.now chains → asked (meaning language.now) function forms ≡ Some ks → Filled (listed self.old) (ruled_edges function chains ((meaning language.now).rule function ks)) result (listed self.new) }
+        ensures { (chains : List (List ℕ)) (ks : List ℕ) → Chains index.now.next starts.now chains → asked (L.meaning language.now) function forms ≡ Some ks → Filled (listed self.old) (ruled_edges function chains ((L.meaning language.now).rule function ks)) result (listed self.new) }
     {
         let Some(rule) = language.rule(function, forms) else {
             return true;

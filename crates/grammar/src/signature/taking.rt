@@ -9,7 +9,7 @@ use crate::language::Language;
 
 // The type of a language's function of that number, if there is one.
 fn function_type<L: Language>(language: &L, function: u8) -> Option<FunctionType>
-    ensures { option_map typed result ≡ slice_get (meaning language.now).signature.functions function }
+    ensures { option_map typed result ≡ slice_get (L.meaning language.now).signature.functions function }
 {
     let result = language.result(function)?;
     let arguments = language.arguments(function)?;
@@ -19,7 +19,7 @@ fn function_type<L: Language>(language: &L, function: u8) -> Option<FunctionType
 impl SignatureTable {
     // The signature of a language: it has at most 64 functions, so each of them has its place.
     pub fn of<L: Language>(language: &L) -> SignatureTable
-        ensures { signature_of result ≡ (meaning language.now).signature }
+        ensures { signature_of result ≡ (L.meaning language.now).signature }
     {
         let mut table = SignatureTable::new(language.categories(), language.start());
         for number in 0..language.functions() {

@@ -16,7 +16,7 @@ pub fn text_of<L: Language>(
     tree: &TreeCode,
     language: &L,
 ) -> Result<Vec<u8>, TextFault>
-    ensures { TextTold vec_items (meaning language.now) tree.now result }
+    ensures { TextTold vec_items (L.meaning language.now) tree.now result }
 {
     let table = measure(tree, language)?;
     let mut text = Vec::from_elem(heap, 0, text_length(&table))?;

@@ -36,7 +36,7 @@ impl<'a> Phrase<'a> {
 
     // The first place that has a word of the language, by its number.
     pub fn place_of<L: Language>(&self, language: &L, word: u16) -> Option<u8>
-        ensures { PlaceOf (words_of self.now) (slice_get (meaning language.now).words word) result }
+        ensures { PlaceOf (words_of self.now) (slice_get (L.meaning language.now).words word) result }
     {
         for place in 0..self.len() {
             if let Some(bytes) = self.word(place) {

@@ -9,7 +9,7 @@ use grammar::language::Language;
 impl<'a> Phrase<'a> {
     // Its place; none if the language has every word of the phrase.
     pub fn first_unknown<L: Language>(&self, language: &L) -> Option<usize>
-        ensures { UnknownAt (meaning language.now) (words_of self.now) result }
+        ensures { UnknownAt (L.meaning language.now) (words_of self.now) result }
     {
         for place in 0..self.len() {
             if let Some(bytes) = self.word(place) {

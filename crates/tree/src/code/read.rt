@@ -58,8 +58,8 @@ impl<'a> TreeCode<'a> {
     }
     // Whether the language has the signature of the tree.
     pub fn is_of<L: Language>(&self, language: &L) -> bool
-        ensures same { result ≡ true → tree_signature self.now ≡ (meaning language.now).signature }
-        ensures other { result ≡ false → tree_signature self.now ≢ (meaning language.now).signature }
+        ensures same { result ≡ true → tree_signature self.now ≡ (L.meaning language.now).signature }
+        ensures other { result ≡ false → tree_signature self.now ≢ (L.meaning language.now).signature }
     {
         same_signature(self.signature, &SignatureTable::of(language))
     }

@@ -6,4 +6,4 @@ use Rattle.cnc.proofs.rules.is_key_rising.Goals as goal
 
 pub returns-else-rule-eq0 : goal.returns-else-rule-eq0
 returns-else-rule-eq0 c =
-    c.is-rising.ensures ∙ key_after (image c.args.view.now) c.args.rule c.if-rule-eq0.false c.key.ensures c.key-else-rule-eq0.ensures
+    c.is_rising.ensures ∙ key_after (image c.args.view.now) c.args.rule c.if-rule-eq0.false c.key.ensures c.key-else-rule-eq0.ensures

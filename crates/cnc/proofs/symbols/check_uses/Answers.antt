@@ -6,13 +6,13 @@ use Rattle.demands.specs.Check.{each, symbol_demands}
 use Rattle.demands.proofs.Demands.{each_passes, each_stops, handed_on}
 use Rattle.cnc.proofs.symbols.check_uses.Goals as goal
 
-pub returns-in-err-check-constituent : goal.returns-in-err-check-constituent
-returns-in-err-check-constituent c =
+pub returns-in_err-check_constituent : goal.returns-in_err-check_constituent
+returns-in_err-check_constituent c =
     let b = image c.args.view.now in
-    handed_on c.from-residual.result c.from-residual.ensures.1
-    (each_stops (λ k. each (symbol_count b c.args.rule k) (symbol_demands b c.args.rule k)) c.loop-constituent.constituent c.loop-constituent.invariant _ (omega arith) c.in-err-check-constituent.ensures)
+    handed_on c.from_residual.result c.from_residual.ensures.1
+    (each_stops (λ k. each (symbol_count b c.args.rule k) (symbol_demands b c.args.rule k)) c.loop-constituent.constituent c.loop-constituent.invariant _ (omega arith) c.in_err-check_constituent.ensures)
 
 pub loop-constituent-preserved : goal.loop-constituent-preserved
 loop-constituent-preserved c =
     let b = image c.args.view.now in
-    each_passes (λ k. each (symbol_count b c.args.rule k) (symbol_demands b c.args.rule k)) c.loop-constituent.constituent c.loop-constituent.invariant c.in-ok-check-constituent.ensures
+    each_passes (λ k. each (symbol_count b c.args.rule k) (symbol_demands b c.args.rule k)) c.loop-constituent.constituent c.loop-constituent.invariant c.in_ok-check_constituent.ensures

@@ -5,13 +5,13 @@ use Rattle.demands.specs.Check.{word_demands}
 use Rattle.demands.proofs.Demands.{each_passes, each_stops, handed_on}
 use Rattle.cnc.proofs.words.check_words.Goals as goal
 
-pub returns-in-err-check-word : goal.returns-in-err-check-word
-returns-in-err-check-word c =
+pub returns-in_err-check_word : goal.returns-in_err-check_word
+returns-in_err-check_word c =
     let b = image c.args.view.now in
-    handed_on c.from-residual.result c.from-residual.ensures.1
-    (each_stops (word_demands b) c.loop-word.word c.loop-word.invariant _ (omega arith) c.in-err-check-word.ensures)
+    handed_on c.from_residual.result c.from_residual.ensures.1
+    (each_stops (word_demands b) c.loop-word.word c.loop-word.invariant _ (omega arith) c.in_err-check_word.ensures)
 
 pub loop-word-preserved : goal.loop-word-preserved
 loop-word-preserved c =
     let b = image c.args.view.now in
-    each_passes (word_demands b) c.loop-word.word c.loop-word.invariant c.in-ok-check-word.ensures
+    each_passes (word_demands b) c.loop-word.word c.loop-word.invariant c.in_ok-check_word.ensures

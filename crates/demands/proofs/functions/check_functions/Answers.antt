@@ -5,13 +5,13 @@ use Rattle.demands.specs.Check.{function_demands}
 use Rattle.demands.proofs.Demands.{each_passes, each_stops, handed_on}
 use Rattle.demands.proofs.functions.check_functions.Goals as goal
 
-pub returns-in-err-check-function : goal.returns-in-err-check-function
-returns-in-err-check-function c =
+pub returns-in_err-check_function : goal.returns-in_err-check_function
+returns-in_err-check_function c =
     let b = image c.args.view.now in
-    handed_on c.from-residual.result c.from-residual.ensures.1
-    (each_stops (function_demands b) c.loop-function.function c.loop-function.invariant _ (omega arith) c.in-err-check-function.ensures)
+    handed_on c.from_residual.result c.from_residual.ensures.1
+    (each_stops (function_demands b) c.loop-function.function c.loop-function.invariant _ (omega arith) c.in_err-check_function.ensures)
 
 pub loop-function-preserved : goal.loop-function-preserved
 loop-function-preserved c =
     let b = image c.args.view.now in
-    each_passes (function_demands b) c.loop-function.function c.loop-function.invariant c.in-ok-check-function.ensures
+    each_passes (function_demands b) c.loop-function.function c.loop-function.invariant c.in_ok-check_function.ensures

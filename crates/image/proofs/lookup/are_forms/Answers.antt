@@ -4,4 +4,4 @@ use Rattle.image.proofs.lookup.are_forms.Goals as goal
 
 pub returns : goal.returns
 returns c =
-    rw (c.is-form.ensures, c.is-form-2.ensures, c.is-form-3.ensures) (sym (forms_in_range c.args.arity c.args.forms c.requires (search rules)))
+    rw (c.is_form.ensures, c.is_form-2.ensures, c.is_form-3.ensures) (sym (forms_in_range c.args.arity c.args.forms c.requires (search rules)))

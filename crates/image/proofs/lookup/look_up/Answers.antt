@@ -1,32 +1,31 @@
-use Rattle.std.proofs.Common.{◌≡◌, ◌<◌, true, false, length, is_some, sym, ap, ◌∙◌, arith, rules}
+use Rattle.std.proofs.Common.{is_some, sym, ap, ◌∙◌, arith, rules}
 use Rattle.grammar.specs.Questions.{forms_of}
-use Rattle.view.specs.Layout.{functions, arity}
 use Rattle.view.specs.Views.{image}
 use Rattle.soundness.proofs.Asking.{asked_unknown}
 use Rattle.image.proofs.Answered.{sound_bytes, entry_found, entry_missing, out_of_range}
 use Rattle.image.proofs.lookup.look_up.Goals as goal
 
-pub are-forms-requires : goal.are-forms-requires
-are-forms-requires c =
+pub are_forms-requires : goal.are_forms-requires
+are_forms-requires c =
     omega (arith, ((sound_bytes (image c.args.view.now) c.requires).function_sound c.args.function (omega arith)).arity_range)
 
-pub find-key-requires : goal.find-key-requires
-find-key-requires c = λ r lt. ((sound_bytes (image c.args.view.now) c.requires).rule_sound r lt).rising
+pub find_key-requires : goal.find_key-requires
+find_key-requires c = λ r lt. ((sound_bytes (image c.args.view.now) c.requires).rule_sound r lt).rising
 
 pub returns-then-function-functions : goal.returns-then-function-functions
 returns-then-function-functions c = asked_unknown (image c.args.view.now) c.args.function (omega arith) c.args.forms
 
-pub returns-then-not-are-forms : goal.returns-then-not-are-forms
-returns-then-not-are-forms c =
+pub returns-then-not-are_forms : goal.returns-then-not-are_forms
+returns-then-not-are_forms c =
     let b = image c.args.view.now in
-    out_of_range b (sound_bytes b c.requires) c.args.function (omega arith) c.args.forms (search rules) (ap (λ n. is_some (forms_of n c.args.forms)) (sym c.arity.ensures) ∙ sym c.are-forms.ensures ∙ c.if-not-are-forms.true)
+    out_of_range b (sound_bytes b c.requires) c.args.function (omega arith) c.args.forms (search rules) (ap (λ n. is_some (forms_of n c.args.forms)) (sym c.arity.ensures) ∙ sym c.are_forms.ensures ∙ c.if-not-are_forms.true)
 
 pub returns-in-Some : goal.returns-in-Some
 returns-in-Some c =
     let b = image c.args.view.now in
-    entry_found b (sound_bytes b c.requires) c.args.function (omega arith) c.args.forms (search rules) (ap (λ n. is_some (forms_of n c.args.forms)) (sym c.arity.ensures) ∙ sym c.are-forms.ensures ∙ c.if-not-are-forms.false) c.in-Some.rule c.in-Some.ensures
+    entry_found b (sound_bytes b c.requires) c.args.function (omega arith) c.args.forms (search rules) (ap (λ n. is_some (forms_of n c.args.forms)) (sym c.arity.ensures) ∙ sym c.are_forms.ensures ∙ c.if-not-are_forms.false) c.in-Some.rule c.in-Some.ensures
 
 pub returns-in-None : goal.returns-in-None
 returns-in-None c =
     let b = image c.args.view.now in
-    entry_missing b (sound_bytes b c.requires) c.args.function (omega arith) c.args.forms (search rules) (ap (λ n. is_some (forms_of n c.args.forms)) (sym c.arity.ensures) ∙ sym c.are-forms.ensures ∙ c.if-not-are-forms.false) c.in-None.ensures
+    entry_missing b (sound_bytes b c.requires) c.args.function (omega arith) c.args.forms (search rules) (ap (λ n. is_some (forms_of n c.args.forms)) (sym c.arity.ensures) ∙ sym c.are_forms.ensures ∙ c.if-not-are_forms.false) c.in-None.ensures

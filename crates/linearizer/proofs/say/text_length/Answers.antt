@@ -12,7 +12,7 @@ returns-in-Some c m t s measured said =
     let same : c.in-Some.measure ≡ measure_of s = cc (root, c.in-Some.is) in
     let bytes = ap (λ (x : Measure). (get_or x.sizes 0 record { words = 0; bytes = 0 }).bytes) same in
     let words = ap (λ (x : Measure). (get_or x.sizes 0 record { words = 0; bytes = 0 }).words) same in
-    omega (arith, c.saturating-sub.ensures)
+    omega (arith, c.saturating_sub.ensures)
 
 pub returns-in-None : goal.returns-in-None
 returns-in-None c m t s measured said =

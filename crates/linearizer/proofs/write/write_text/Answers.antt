@@ -24,27 +24,27 @@ loop-symbol-smaller-then-pop g c =
 pub loop-symbol-preserved-then-pop : goal.loop-symbol-preserved-then-pop
 loop-symbol-preserved-then-pop g c =
     let law = g.met.L.Language.lawful c.args.language.now in (
-      underway_up law c.requires.ready c.loop-symbol.invariant.0 c.in-default.ensures (held c.pop.new.self) c.pop.new.place (c.pop.ensures.top c.if-pop.true),
+      underway_up law c.requires.ready c.loop-symbol.invariant.0 c.in_default.ensures (held c.pop.new.self) c.pop.new.place (c.pop.ensures.top c.if-pop.true),
       ap length c.pop.ensures.same ∙ c.loop-symbol.invariant.1,
       c.pop.ensures.owner ∙ c.loop-symbol.invariant.2,
       c.loop-symbol.invariant.3,
     )
 
-pub returns-in-default : goal.returns-in-default
-returns-in-default g c =
+pub returns-in_default : goal.returns-in_default
+returns-in_default g c =
     let law = g.met.L.Language.lawful c.args.language.now in
     record {
       lender = c.loop-symbol.invariant.3;
-      wrote = underway_end law c.requires.ready c.loop-symbol.invariant.0 c.in-default.ensures (c.pop.ensures.empty c.if-pop.false);
+      wrote = underway_end law c.requires.ready c.loop-symbol.invariant.0 c.in_default.ensures (c.pop.ensures.empty c.if-pop.false);
     }
 
-pub overflow-add-frame : goal.overflow-add-frame
-overflow-add-frame g c =
+pub overflow_add-frame : goal.overflow_add-frame
+overflow_add-frame g c =
     let law = g.met.L.Language.lawful c.args.language.now in
     omega (arith, next_small law c.args.tree.now c.args.table.now c.loop-symbol.frame c.in-Some.symbol c.in-Some.ensures)
 
-pub write-word-requires : goal.write-word-requires
-write-word-requires g c =
+pub write_word-requires : goal.write_word-requires
+write_word-requires g c =
     let law = g.met.L.Language.lawful c.args.language.now in
     word_fits law c.requires.ready c.loop-symbol.invariant.0 c.in-Some.symbol c.in-Word.word c.in-Some.ensures c.in-Word.is
 
@@ -56,41 +56,41 @@ loop-symbol-smaller-in-Word g c =
 pub loop-symbol-preserved-in-Word : goal.loop-symbol-preserved-in-Word
 loop-symbol-preserved-in-Word g c =
     let law = g.met.L.Language.lawful c.args.language.now in (
-      underway_word law c.requires.ready c.loop-symbol.invariant.0 c.in-Some.symbol c.in-Word.word c.in-Some.ensures c.in-Word.is c.write-word.ensures.grown,
+      underway_word law c.requires.ready c.loop-symbol.invariant.0 c.in-Some.symbol c.in-Word.word c.in-Some.ensures c.in-Word.is c.write_word.ensures.grown,
       c.loop-symbol.invariant.1,
       c.loop-symbol.invariant.2,
-      c.write-word.ensures.lender ∙ c.loop-symbol.invariant.3,
+      c.write_word.ensures.lender ∙ c.loop-symbol.invariant.3,
     )
 
-pub argument-place-place-requires : goal.argument-place-place-requires
-argument-place-place-requires g c =
+pub argument_place-place-requires : goal.argument_place-place-requires
+argument_place-place-requires g c =
     let law = g.met.L.Language.lawful c.args.language.now in
     (told_small law c.args.tree.now c.args.table.now c.loop-symbol.frame c.in-Some.symbol c.in-Some.ensures c.in-Reference.argument c.in-Reference.constituent c.in-Reference.is).0
 
-pub count-words-requires : goal.count-words-requires
-count-words-requires g c =
+pub count_words-requires : goal.count_words-requires
+count_words-requires g c =
     let law = g.met.L.Language.lawful c.args.language.now in
     (told_small law c.args.tree.now c.args.table.now c.loop-symbol.frame c.in-Some.symbol c.in-Some.ensures c.in-Reference.argument c.in-Reference.constituent c.in-Reference.is).1
 
 -- the frame that waits finds room
-few : (g : Over) (c : goal.AfterPush g) → length (held c.loop-symbol.frames) ≤ 4
+few : (g : Over) (c : goal.After-push g) → length (held c.loop-symbol.frames) ≤ 4
 few g c =
     let law = g.met.L.Language.lawful c.args.language.now in
-    level_small law c.requires.ready c.loop-symbol.invariant.0 c.in-Some.symbol c.in-Reference.argument c.in-Reference.constituent c.argument-place-place.result c.in-Some.ensures c.in-Reference.is c.argument-place-place.ensures
+    level_small law c.requires.ready c.loop-symbol.invariant.0 c.in-Some.symbol c.in-Reference.argument c.in-Reference.constituent c.argument_place-place.result c.in-Some.ensures c.in-Reference.is c.argument_place-place.ensures
 
-pushed : (g : Over) (c : goal.AfterPush g) → c.push.result ≡ true
+pushed : (g : Over) (c : goal.After-push g) → c.push.result ≡ true
 pushed g c = push_fits c.push.result _ _ c.push.ensures.full c.loop-symbol.invariant.1 (few g c)
 
-pub loop-symbol-smaller-then-count-words-ne0 : goal.loop-symbol-smaller-then-count-words-ne0
-loop-symbol-smaller-then-count-words-ne0 g c =
+pub loop-symbol-smaller-then-count_words-ne0 : goal.loop-symbol-smaller-then-count_words-ne0
+loop-symbol-smaller-then-count_words-ne0 g c =
     let law = g.met.L.Language.lawful c.args.language.now in
-    let child = starting c.argument-place-place.result c.in-Reference.constituent in
+    let child = starting c.argument_place-place.result c.in-Reference.constituent in
     less_down law c.args.tree.now c.args.table.now c.loop-symbol.frame c.in-Some.symbol c.in-Some.ensures (held c.loop-symbol.frames) (held c.push.new.self) child (few g c) (c.push.ensures.put (pushed g c))
 
-pub loop-symbol-preserved-then-count-words-ne0 : goal.loop-symbol-preserved-then-count-words-ne0
-loop-symbol-preserved-then-count-words-ne0 g c =
+pub loop-symbol-preserved-then-count_words-ne0 : goal.loop-symbol-preserved-then-count_words-ne0
+loop-symbol-preserved-then-count_words-ne0 g c =
     let law = g.met.L.Language.lawful c.args.language.now in (
-      underway_down law c.requires.ready c.loop-symbol.invariant.0 c.in-Some.symbol c.in-Reference.argument c.in-Reference.constituent c.argument-place-place.result c.in-Some.ensures c.in-Reference.is c.argument-place-place.ensures (held c.push.new.self) (c.push.ensures.put (pushed g c)),
+      underway_down law c.requires.ready c.loop-symbol.invariant.0 c.in-Some.symbol c.in-Reference.argument c.in-Reference.constituent c.argument_place-place.result c.in-Some.ensures c.in-Reference.is c.argument_place-place.ensures (held c.push.new.self) (c.push.ensures.put (pushed g c)),
       c.push.ensures.size ∙ c.loop-symbol.invariant.1,
       c.push.ensures.owner ∙ c.loop-symbol.invariant.2,
       c.loop-symbol.invariant.3,
@@ -104,7 +104,7 @@ loop-symbol-smaller g c =
 pub loop-symbol-preserved : goal.loop-symbol-preserved
 loop-symbol-preserved g c =
     let law = g.met.L.Language.lawful c.args.language.now in (
-      underway_past law c.requires.ready c.loop-symbol.invariant.0 c.in-Some.symbol c.in-Reference.argument c.in-Reference.constituent c.argument-place-place.result c.in-Some.ensures c.in-Reference.is c.argument-place-place.ensures c.count-words.result c.count-words.ensures c.if-count-words-ne0.false,
+      underway_past law c.requires.ready c.loop-symbol.invariant.0 c.in-Some.symbol c.in-Reference.argument c.in-Reference.constituent c.argument_place-place.result c.in-Some.ensures c.in-Reference.is c.argument_place-place.ensures c.count_words.result c.count_words.ensures c.if-count_words-ne0.false,
       c.loop-symbol.invariant.1,
       c.loop-symbol.invariant.2,
       c.loop-symbol.invariant.3,

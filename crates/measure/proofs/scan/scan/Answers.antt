@@ -13,8 +13,8 @@ loop-place-init g c t is =
     let m = g.L.Language.meaning c.args.language.now in
     subst (λ k. Scanned m t k c.args.table.now None) (sym c.len-place.ensures) (scanned_none m (bytes_of c.args.tree.now) t is c.args.table.now)
 
-pub node-at-is-mute-requires : goal.node-at-is-mute-requires
-node-at-is-mute-requires g c =
+pub node_at-is_mute-requires : goal.node_at-is_mute-requires
+node_at-is_mute-requires g c =
     let l = c.args.language.now in
     let m = g.L.Language.meaning l in
     let bytes = bytes_of c.args.tree.now in
@@ -38,23 +38,23 @@ put-requires g c =
 
 pub loop-place-preserved : goal.loop-place-preserved
 loop-place-preserved g c =
-    absurd (nth_missing (bytes_of c.args.tree.now) _ (omega (arith, c.len-place.ensures)) (sym c.in-default.ensures))
+    absurd (nth_missing (bytes_of c.args.tree.now) _ (omega (arith, c.len-place.ensures)) (sym c.in_default.ensures))
 
-pub loop-place-preserved-then-is-mute : goal.loop-place-preserved-then-is-mute
-loop-place-preserved-then-is-mute g c t is =
+pub loop-place-preserved-then-is_mute : goal.loop-place-preserved-then-is_mute
+loop-place-preserved-then-is_mute g c t is =
     let l = c.args.language.now in
     let m = g.L.Language.meaning l in
     let p = c.loop-place.place in
-    let more = one_node_more m (g.met.L.Language.lawful l) (bytes_of c.args.tree.now) t is p c.loop-place.table c.loop-place.mute (c.loop-place.invariant t is) (omega arith) (omega (arith, c.len-place.ensures)) c.in-Some.function c.in-Some.ensures c.node-at-is-mute.result.0 c.node-at-is-mute.result.1 c.put.new.self c.node-at-is-mute.ensures c.put.ensures in
-    subst (λ s. Scanned m t (p - 1) c.put.new.self (noted s (p - 1) c.loop-place.mute)) c.if-is-mute.true more
+    let more = one_node_more m (g.met.L.Language.lawful l) (bytes_of c.args.tree.now) t is p c.loop-place.table c.loop-place.mute (c.loop-place.invariant t is) (omega arith) (omega (arith, c.len-place.ensures)) c.in-Some.function c.in-Some.ensures c.node_at-is_mute.result.0 c.node_at-is_mute.result.1 c.put.new.self c.node_at-is_mute.ensures c.put.ensures in
+    subst (λ s. Scanned m t (p - 1) c.put.new.self (noted s (p - 1) c.loop-place.mute)) c.if-is_mute.true more
 
-pub loop-place-preserved-else-is-mute : goal.loop-place-preserved-else-is-mute
-loop-place-preserved-else-is-mute g c t is =
+pub loop-place-preserved-else-is_mute : goal.loop-place-preserved-else-is_mute
+loop-place-preserved-else-is_mute g c t is =
     let l = c.args.language.now in
     let m = g.L.Language.meaning l in
     let p = c.loop-place.place in
-    let more = one_node_more m (g.met.L.Language.lawful l) (bytes_of c.args.tree.now) t is p c.loop-place.table c.loop-place.mute (c.loop-place.invariant t is) (omega arith) (omega (arith, c.len-place.ensures)) c.in-Some.function c.in-Some.ensures c.node-at-is-mute.result.0 c.node-at-is-mute.result.1 c.put.new.self c.node-at-is-mute.ensures c.put.ensures in
-    subst (λ s. Scanned m t (p - 1) c.put.new.self (noted s (p - 1) c.loop-place.mute)) c.if-is-mute.false more
+    let more = one_node_more m (g.met.L.Language.lawful l) (bytes_of c.args.tree.now) t is p c.loop-place.table c.loop-place.mute (c.loop-place.invariant t is) (omega arith) (omega (arith, c.len-place.ensures)) c.in-Some.function c.in-Some.ensures c.node_at-is_mute.result.0 c.node_at-is_mute.result.1 c.put.new.self c.node_at-is_mute.ensures c.put.ensures in
+    subst (λ s. Scanned m t (p - 1) c.put.new.self (noted s (p - 1) c.loop-place.mute)) c.if-is_mute.false more
 
 pub returns : goal.returns
 returns g c t is =

@@ -1,5 +1,5 @@
 -- Each symbol adds its size.
-use Rattle.std.proofs.Common.{◌≡◌, ℕ, List, length, take, Some, None, sym, ap, ◌∙◌, subst, arith}
+use Rattle.std.proofs.Common.{◌≡◌, List, Some, None, sym, ap, ◌∙◌, arith}
 use Rattle.std.specs.List.{slice_get, flat_map}
 use Rattle.std.proofs.lemmas.List.{take_all}
 use Rattle.grammar.specs.declared.symbol.Symbol.{Symbol}
@@ -11,10 +11,10 @@ use Rattle.measure.proofs.Adding.{one_symbol_more}
 use Rattle.grammar.proofs.Nth.{nth_missing}
 use Rattle.measure.proofs.Asked.{answered_in_range, symbol_there, symbol_count}
 use Rattle.measure.proofs.sums.sequence_size.Goals as goal
-use Rattle.measure.proofs.sums.sequence_size.Goals.{in-Some-symbol, in-default-symbol}
+use Rattle.measure.proofs.sums.sequence_size.Goals.{in-Some-symbol, in_default-symbol}
 
-pub symbol-size-requires : goal.symbol-size-requires
-symbol-size-requires g c =
+pub symbol_size-requires : goal.symbol_size-requires
+symbol_size-requires g c =
     let l = c.args.language.now in
     record {
       range = answered_in_range (g.L.Language.meaning l) (g.met.L.Language.lawful l) c.args.function c.args.forms c.args.constituent c.loop-index.index c.in-Some-symbol.symbol (sym c.in-Some-symbol.ensures);
@@ -30,14 +30,14 @@ loop-index-preserved g c =
       | in-Some-symbol w ↦
           let x = w.in-Some-symbol.symbol in
           let there : slice_get (or_no_symbols asked) i ≡ Some x = sym (symbol_there asked i) ∙ sym w.in-Some-symbol.ensures in
-          let told = w.symbol-size.ensures in
+          let told = w.symbol_size.ensures in
           rw w.size-is (rw w.plus-size.ensures (
             omega (arith, told.small.0, c.loop-index.invariant.0),
             omega (arith, told.small.1, c.loop-index.invariant.1),
-            λ all same. one_symbol_more (symbol_words m all) (or_no_symbols asked) i x c.loop-index.size w.symbol-size.result there (c.loop-index.invariant.2 all same) (told.size all same),
+            λ all same. one_symbol_more (symbol_words m all) (or_no_symbols asked) i x c.loop-index.size w.symbol_size.result there (c.loop-index.invariant.2 all same) (told.size all same),
           ))
-      | in-default-symbol w ↦
-          let none : slice_get (or_no_symbols asked) i ≡ None = sym (symbol_there asked i) ∙ sym w.in-default-symbol.ensures in
+      | in_default-symbol w ↦
+          let none : slice_get (or_no_symbols asked) i ≡ None = sym (symbol_there asked i) ∙ sym w.in_default-symbol.ensures in
           absurd (nth_missing (or_no_symbols asked) i (omega (arith, symbol_count asked c.in-Some.count (sym c.in-Some.ensures))) none)
     ]
 

@@ -1,5 +1,5 @@
 -- A word has its own bytes, and a reference the size that was found for it.
-use Rattle.std.proofs.Common.{◌≡◌, [], get_or, sym, ap, ◌∙◌, subst, arith}
+use Rattle.std.proofs.Common.{[], get_or, sym, ap, ◌∙◌, subst, arith}
 use Rattle.std.specs.List.{AllByRecursion as All}
 use Rattle.grammar.specs.Linearization.{symbol_words}
 use Rattle.saying.proofs.Lengths.{read_all}
@@ -11,9 +11,9 @@ use Rattle.measure.proofs.sums.symbol_size.Goals as goal
 
 pub returns-in-Word : goal.returns-in-Word
 returns-in-Word g c = record {
-  small = (omega arith, omega (arith, c.word-bytes.ensures.few));
+  small = (omega arith, omega (arith, c.word_bytes.ensures.few));
   size = λ all same.
-      one_word (get_or (g.L.Language.meaning c.args.language.now).words c.in-Word.word []) c.word-bytes.result c.word-bytes.ensures.bytes
+      one_word (get_or (g.L.Language.meaning c.args.language.now).words c.in-Word.word []) c.word_bytes.result c.word_bytes.ensures.bytes
       ∙ ap (λ x. size_of (symbol_words (g.L.Language.meaning c.args.language.now) all x)) (sym c.in-Word.is);
 }
 

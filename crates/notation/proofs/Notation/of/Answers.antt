@@ -4,7 +4,7 @@ use Rattle.notation.specs.Checks.{is_lawful}
 use Rattle.notation.specs.Checked.{lawful_decided}
 use Rattle.notation.proofs.Notation.of.Goals as goal
 
-pub invariant-of-result : goal.invariant-of-result
-invariant-of-result g c =
+pub invariant_of-result : goal.invariant_of-result
+invariant_of-result g c =
     let l = c.args.language.now in
-    (ap is_lawful c.of-signature.ensures ∙ (lawful_decided (g.L.Language.meaning l).signature).1 (g.met.L.Language.lawful l).signature_lawful, tt)
+    record { lawful = ap is_lawful c.of-signature.ensures ∙ (lawful_decided (g.L.Language.meaning l).signature).1 (g.met.L.Language.lawful l).signature_lawful }

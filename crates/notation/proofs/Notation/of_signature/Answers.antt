@@ -5,10 +5,10 @@ use Rattle.grammar.specs.Tables.{signature_of}
 use Rattle.notation.specs.Checked.{lawful_decided}
 use Rattle.notation.proofs.Notation.of_signature.Goals as goal
 
-pub returns-then-is-lawful : goal.returns-then-is-lawful
-returns-then-is-lawful c =
-    record { test = Decides-at true _ c.if-is-lawful.ensures (lawful_decided (signature_of c.args.table)); signature = refl }
+pub returns-then-is_lawful : goal.returns-then-is_lawful
+returns-then-is_lawful c =
+    record { test = Decides-at true _ c.if-is_lawful.ensures (lawful_decided (signature_of c.args.table)); signature = refl }
 
-pub returns-else-is-lawful : goal.returns-else-is-lawful
-returns-else-is-lawful c =
-    record { test = Decides-at false _ c.if-is-lawful.ensures (lawful_decided (signature_of c.args.table)); signature = tt }
+pub returns-else-is_lawful : goal.returns-else-is_lawful
+returns-else-is_lawful c =
+    record { test = Decides-at false _ c.if-is_lawful.ensures (lawful_decided (signature_of c.args.table)); signature = tt }

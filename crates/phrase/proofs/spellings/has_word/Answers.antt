@@ -5,13 +5,13 @@ use Rattle.phrase.proofs.Bytewise.{decides_no, decides_yes}
 use Rattle.phrase.proofs.Looked.{holds_nth, not_in_all, not_in_more, nth_holds}
 use Rattle.phrase.proofs.spellings.has_word.Goals as goal
 
-pub returns-then-is-word : goal.returns-then-is-word
-returns-then-is-word g c =
-    decides_yes _ (nth_holds (g.L.Language.meaning c.args.language.now).words c.loop-word.word c.args.bytes.now (c.if-is-word.ensures.0 refl))
+pub returns-then-is_word : goal.returns-then-is_word
+returns-then-is_word g c =
+    decides_yes _ (nth_holds (g.L.Language.meaning c.args.language.now).words c.loop-word.word c.args.bytes.now (c.if-is_word.ensures.0 refl))
 
 pub loop-word-preserved : goal.loop-word-preserved
 loop-word-preserved g c =
-    not_in_more (g.L.Language.meaning c.args.language.now).words (Some c.args.bytes.now) c.loop-word.word (λ w e there. false≢true (c.if-is-word.ensures.1 (there ∙ sym e))) c.loop-word.invariant
+    not_in_more (g.L.Language.meaning c.args.language.now).words (Some c.args.bytes.now) c.loop-word.word (λ w e there. false≢true (c.if-is_word.ensures.1 (there ∙ sym e))) c.loop-word.invariant
 
 pub returns : goal.returns
 returns g c =

@@ -6,15 +6,15 @@ use Rattle.phrase.proofs.spellings.is_word.Goals as goal
 
 pub returns-then-byte-bytes : goal.returns-then-byte-bytes
 returns-then-byte-bytes g c =
-    decides_no _ (other_byte (slice_get (g.L.Language.meaning c.args.language.now).words c.args.word) c.args.bytes.now c.loop-index.index c.in-Some-word-byte.byte (omega arith) (sym c.in-Some-word-byte.ensures) c.if-byte-bytes.true)
+    decides_no _ (other_byte (slice_get (g.L.Language.meaning c.args.language.now).words c.args.word) c.args.bytes.now c.loop-index.index c.in-Some-word_byte.byte (omega arith) (sym c.in-Some-word_byte.ensures) c.if-byte-bytes.true)
 
-pub returns-in-None-word-byte : goal.returns-in-None-word-byte
-returns-in-None-word-byte g c =
-    decides_no _ (missing_byte (slice_get (g.L.Language.meaning c.args.language.now).words c.args.word) c.args.bytes.now c.loop-index.index (omega arith) (sym c.in-None-word-byte.ensures))
+pub returns-in-None-word_byte : goal.returns-in-None-word_byte
+returns-in-None-word_byte g c =
+    decides_no _ (missing_byte (slice_get (g.L.Language.meaning c.args.language.now).words c.args.word) c.args.bytes.now c.loop-index.index (omega arith) (sym c.in-None-word_byte.ensures))
 
 pub loop-index-preserved : goal.loop-index-preserved
 loop-index-preserved g c =
-    agree_more (slice_get (g.L.Language.meaning c.args.language.now).words c.args.word) c.args.bytes.now c.loop-index.index c.in-Some-word-byte.byte (omega arith) (sym c.in-Some-word-byte.ensures) c.if-byte-bytes.false c.loop-index.invariant
+    agree_more (slice_get (g.L.Language.meaning c.args.language.now).words c.args.word) c.args.bytes.now c.loop-index.index c.in-Some-word_byte.byte (omega arith) (sym c.in-Some-word_byte.ensures) c.if-byte-bytes.false c.loop-index.invariant
 
 pub returns-after-loop-index : goal.returns-after-loop-index
 returns-after-loop-index g c =

@@ -12,6 +12,6 @@ returns-in-Reference g c items same =
     let m = g.L.Language.meaning c.args.language.now in
     let phrase = words_of c.args.phrase.now in
     let range = subst (Named m) c.in-Reference.is c.requires in
-    subst (λ q. Added phrase (string_of phrase c.args.places.now) q c.push-window.result (string_of phrase c.push-window.new.self))
+    subst (λ q. Added phrase (string_of phrase c.args.places.now) q c.push_window.result (string_of phrase c.push_window.new.self))
     (ap (window_string phrase) (argument_window items c.args.arguments.now c.in-Reference.argument c.in-Reference.constituent _ _ range.0 range.1 same) ∙ ap (symbol_string m phrase items) (sym c.in-Reference.is))
-    c.push-window.ensures
+    c.push_window.ensures

@@ -12,15 +12,15 @@ use Rattle.phrase.specs.Spelled.{words_of}
 use Rattle.windows.specs.Strings.{string_of, words_from}
 use Rattle.windows.proofs.Symbols.{answered_named, no_symbols, symbol_more, symbol_outside}
 use Rattle.windows.proofs.sequences.sequence_window.Goals as goal
-use Rattle.windows.proofs.sequences.sequence_window.Goals.{in-Some-symbol+else-not-push-symbol, in-default-symbol, in-Some+else-loop-index-test, in-default}
+use Rattle.windows.proofs.sequences.sequence_window.Goals.{in-Some-symbol+else-not-push_symbol, in_default-symbol, in-Some+else-loop-index-test, in_default}
 
-pub push-symbol-requires : goal.push-symbol-requires
-push-symbol-requires g c =
+pub push_symbol-requires : goal.push_symbol-requires
+push_symbol-requires g c =
     let l = c.args.language.now in
     answered_named (g.L.Language.meaning l) (g.met.L.Language.lawful l) c.args.function c.args.forms c.args.constituent c.loop-index.index c.in-Some-symbol.symbol (sym c.in-Some-symbol.ensures)
 
-pub returns-then-not-push-symbol : goal.returns-then-not-push-symbol
-returns-then-not-push-symbol g c items same =
+pub returns-then-not-push_symbol : goal.returns-then-not-push_symbol
+returns-then-not-push_symbol g c items same =
     let m = g.L.Language.meaning c.args.language.now in
     let phrase = words_of c.args.phrase.now in
     let asked = sequence_answer m c.args.function c.args.forms c.args.constituent in
@@ -28,7 +28,7 @@ returns-then-not-push-symbol g c items same =
     let x = c.in-Some-symbol.symbol in
     let there : slice_get (or_no_symbols asked) i ≡ Some x = sym (symbol_there asked i) ∙ sym c.in-Some-symbol.ensures in
     symbol_outside m phrase items (or_no_symbols asked) i x there
-    (subst (λ o. IsWindowOf phrase (put_together o (symbol_string m phrase items x)) Outside) (c.loop-index.invariant items same) (c.if-not-push-symbol.ensures items same))
+    (subst (λ o. IsWindowOf phrase (put_together o (symbol_string m phrase items x)) Outside) (c.loop-index.invariant items same) (c.if-not-push_symbol.ensures items same))
 
 pub loop-index-preserved : goal.loop-index-preserved
 loop-index-preserved g c items same =
@@ -37,15 +37,15 @@ loop-index-preserved g c items same =
     let asked = sequence_answer m c.args.function c.args.forms c.args.constituent in
     let i = c.loop-index.index in
     elim c.match-symbol.branch [
-      | in-Some-symbol+else-not-push-symbol w ↦
+      | in-Some-symbol+else-not-push_symbol w ↦
           let x = w.in-Some-symbol.symbol in
           let there : slice_get (or_no_symbols asked) i ≡ Some x = sym (symbol_there asked i) ∙ sym w.in-Some-symbol.ensures in
           ap (string_of phrase) w.places-is
-          ∙ w.if-not-push-symbol.ensures items same
+          ∙ w.if-not-push_symbol.ensures items same
           ∙ ap (λ o. put_together o (symbol_string m phrase items x)) (c.loop-index.invariant items same)
           ∙ sym (symbol_more m phrase items (or_no_symbols asked) i x there)
-      | in-default-symbol w ↦
-          let none : slice_get (or_no_symbols asked) i ≡ None = sym (symbol_there asked i) ∙ sym w.in-default-symbol.ensures in
+      | in_default-symbol w ↦
+          let none : slice_get (or_no_symbols asked) i ≡ None = sym (symbol_there asked i) ∙ sym w.in_default-symbol.ensures in
           absurd (nth_missing (or_no_symbols asked) i (omega (arith, symbol_count asked c.in-Some.count (sym c.in-Some.ensures))) none)
     ]
 
@@ -54,15 +54,15 @@ returns g c items same =
     let m = g.L.Language.meaning c.args.language.now in
     let phrase = words_of c.args.phrase.now in
     let asked = sequence_answer m c.args.function c.args.forms c.args.constituent in
-    let whole : string_of phrase c.match-sequence-length.places ≡ sequence_string m phrase items (or_no_symbols asked) =
-    elim c.match-sequence-length.branch [
+    let whole : string_of phrase c.match-sequence_length.places ≡ sequence_string m phrase items (or_no_symbols asked) =
+    elim c.match-sequence_length.branch [
       | in-Some+else-loop-index-test w ↦
           ap (string_of phrase) w.places-is
           ∙ w.loop-index.invariant items same
           ∙ ap (sequence_string m phrase items) (take_all w.loop-index.index (or_no_symbols asked) (omega (arith, symbol_count asked w.in-Some.count (sym w.in-Some.ensures))))
-      | in-default w ↦
+      | in_default w ↦
           ap (string_of phrase) w.places-is
           ∙ ap (words_from phrase) c.new-places.ensures
-          ∙ ap (sequence_string m phrase items) (sym (no_symbols asked (sym w.in-default.ensures)))
+          ∙ ap (sequence_string m phrase items) (sym (no_symbols asked (sym w.in_default.ensures)))
     ] in
     subst (λ o. IsWindowOf phrase o c.find.result) whole c.find.ensures

@@ -11,8 +11,8 @@ loop-word-init c = (grown_none false _ _ refl refl c.requires.fresh, refl)
 
 pub loop-word-preserved : goal.loop-word-preserved
 loop-word-preserved c = (
-  grown_word c.args.words.now c.loop-word.word-index c.write-word.result (omega arith) c.requires.room c.loop-word.invariant.0 c.write-word.ensures.puts,
-  c.write-word.ensures.lender ∙ c.loop-word.invariant.1,
+  grown_word c.args.words.now c.loop-word.word-index c.write_word.result (omega arith) c.requires.room c.loop-word.invariant.0 c.write_word.ensures.puts,
+  c.write_word.ensures.lender ∙ c.loop-word.invariant.1,
 )
 
 pub returns : goal.returns

@@ -8,4 +8,4 @@ use Rattle.writer.proofs.page.write_words.Goals as goal
 pub returns : goal.returns
 returns c =
     let told = c.in-Some.ensures in
-    (told.1, omega arith, put_on_page c.args.page.now c.args.start (spaced (spellings c.args.words.now)) c.write-front.ensures)
+    (told.1, omega arith, put_on_page c.args.page.now c.args.start (spaced (spellings c.args.words.now)) c.write_front.ensures)

@@ -4,8 +4,8 @@ use Rattle.chart.specs.Rows.{Chains, listed}
 use Rattle.chart.proofs.Walks.{Under}
 use Rattle.chart.proofs.edge.EdgeTable.+add_rows.Given as goal
 
-abbrev pub decreases-add-rows : goal.decreases-add-rows
-decreases-add-rows l = length l.starts.now
+abbrev pub decreases-add_rows : goal.decreases-add_rows
+decreases-add_rows l = length l.starts.now
 
 abbrev pub invariant-loop-place : goal.invariant-loop-place
 invariant-loop-place l =

@@ -1,4 +1,4 @@
-use Rattle.std.proofs.Common.{◌≡◌, [], ◌∷◌, arith}
+use Rattle.std.proofs.Common.{[], ◌∷◌, arith}
 use Rattle.std.proofs.lemmas.List.{take_more_set}
 use Rattle.chart.specs.Rows.{listed}
 use Rattle.chart.proofs.Filling.{filled_full, filled_whole, listed_length}

@@ -42,4 +42,4 @@ loop-place-preserved-in-Some c =
 
 pub loop-place-preserved : goal.loop-place-preserved
 loop-place-preserved c =
-    absurd (nth_missing (held c.args.items.now) _ (omega (arith, c.len-place.ensures)) (sym c.in-default.ensures))
+    absurd (nth_missing (held c.args.items.now) _ (omega (arith, c.len-place.ensures)) (sym c.in_default.ensures))

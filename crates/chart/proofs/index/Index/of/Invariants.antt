@@ -1,5 +1,5 @@
 -- The chains are those of the items from the place on.
-use Rattle.std.proofs.Common.{◌≡◌, ℕ, ◌<◌, length, drop}
+use Rattle.std.proofs.Common.{◌≡◌, length, drop}
 use Rattle.chart.specs.Places.{held}
 use Rattle.chart.proofs.Chains.{Chained}
 use Rattle.chart.proofs.index.Index.of.Given as goal

@@ -1,7 +1,7 @@
 -- Each item so far is another, or the one that is wanted.
 use Rattle.std.proofs.Common.{◌≡◌, take, Some, sym, ap, ◌∙◌, subst, arith}
 use Rattle.grammar.specs.Lists.{Holds}
-use Rattle.chart.proofs.Holding.{held_at, held_length, still_missing}
+use Rattle.chart.proofs.Holding.{held_at, still_missing}
 use Rattle.chart.proofs.table.ItemTable.find.Goals as goal
 
 pub loop-place-init : goal.loop-place-init

@@ -1,5 +1,5 @@
 -- The item is not among those so far.
-use Rattle.std.proofs.Common.{ℕ, take}
+use Rattle.std.proofs.Common.{take}
 use Rattle.grammar.specs.Lists.{Holds}
 use Rattle.chart.proofs.table.ItemTable.find.Given as goal
 

@@ -1,5 +1,5 @@
 -- The item is put at the end of those that are held.
-use Rattle.std.proofs.Common.{◌≡◌, [], ◌∷◌, ◌++◌, sym, refl, ap, ◌∙◌, subst, inr, arith}
+use Rattle.std.proofs.Common.{[], ◌∷◌, ◌++◌, sym, ap, ◌∙◌, inr, arith}
 use Rattle.std.specs.List.{slice_get}
 use Rattle.std.proofs.lemmas.List.{take_more_set}
 use Rattle.chart.specs.Places.{held}
@@ -11,4 +11,4 @@ returns c =
     let t = c.args.self.now in
     let more = take_more_set t.items t.count c.args.item (omega arith) in
     let end = ap (slice_get (held t ++ c.args.item ∷ [])) (sym (held_length t)) ∙ at_the_end (held t) c.args.item in
-    (ap (λ xs. slice_get xs t.count) more ∙ end, inr (c.in-default.ensures, more))
+    (ap (λ xs. slice_get xs t.count) more ∙ end, inr (c.in_default.ensures, more))

@@ -2,8 +2,8 @@
 use Rattle.std.proofs.Common.{◌+◌, ◌*◌}
 use Rattle.draft.proofs.nodes.DraftNodes.+read_all_read_one.Given as goal
 
-abbrev pub decreases-read-all : goal.decreases-read-all
-decreases-read-all l = 2 * l.left + 1
+abbrev pub decreases-read_all : goal.decreases-read_all
+decreases-read_all l = 2 * l.left + 1
 
-abbrev pub decreases-read-one : goal.decreases-read-one
-decreases-read-one l = 2 * l.left
+abbrev pub decreases-read_one : goal.decreases-read_one
+decreases-read_one l = 2 * l.left

@@ -4,8 +4,8 @@ use Rattle.demands.specs.Check.{image_check}
 use Rattle.view.specs.Grammar.{image_meaning}
 use Rattle.image.proofs.language.ImageLanguage.new.Goals as goal
 
-pub invariant-of-result : goal.invariant-of-result
-invariant-of-result c = (ap (λ b. is_some (image_check b)) c.in-ok-bytes.ensures.items, tt)
+pub invariant_of-result : goal.invariant_of-result
+invariant_of-result c = record { sound = ap (λ b. is_some (image_check b)) c.in_ok-bytes.ensures.items }
 
 pub returns : goal.returns
-returns c = ap image_meaning c.in-ok-bytes.ensures.items
+returns c = ap image_meaning c.in_ok-bytes.ensures.items

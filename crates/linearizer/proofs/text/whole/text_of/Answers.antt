@@ -12,24 +12,24 @@ use Rattle.linearizer.specs.Texts.{TextTold}
 use Rattle.linearizer.proofs.Saying.{filled_text, fitting_ready, unmeasured_text}
 use Rattle.linearizer.proofs.text.whole.text_of.Goals as goal
 
-pub returns-in-err-table : goal.returns-in-err-table
-returns-in-err-table g c =
+pub returns-in_err-table : goal.returns-in_err-table
+returns-in_err-table g c =
     let m = g.L.Language.meaning c.args.language.now in
-    let err = err_from_is_err_and c.from-residual.result c.from-residual.ensures.1 in
-    let same : c.from-residual.result ≡ Err (Unsaid c.in-err-table.field-0.0) = err.1 ∙ ap Err err.2 in
-    subst (TextTold (vec_items {X = ℕ} {Z = Global}) m c.args.tree.now) (sym same) (unmeasured_text (vec_items {X = ℕ} {Z = Global}) m c.args.tree.now c.in-err-table.field-0.0 c.in-err-table.ensures)
+    let err = err_from_is_err_and c.from_residual.result c.from_residual.ensures.1 in
+    let same : c.from_residual.result ≡ Err (Unsaid c.in_err-table.field-0.0) = err.1 ∙ ap Err err.2 in
+    subst (TextTold (vec_items {X = ℕ} {Z = Global}) m c.args.tree.now) (sym same) (unmeasured_text (vec_items {X = ℕ} {Z = Global}) m c.args.tree.now c.in_err-table.field-0.0 c.in_err-table.ensures)
 
-pub write-front-requires : goal.write-front-requires
-write-front-requires g c =
-    fitting_ready (g.L.Language.meaning c.args.language.now) c.args.tree.now c.in-ok-table.table c.in-ok-table.ensures c.text_length.result c.text_length.ensures (length c.as-mut-slice.result.now) (omega (arith, c.as-mut-slice.ensures.len, c.in-ok-text.ensures.len))
+pub write_front-requires : goal.write_front-requires
+write_front-requires g c =
+    fitting_ready (g.L.Language.meaning c.args.language.now) c.args.tree.now c.in_ok-table.table c.in_ok-table.ensures c.text_length.result c.text_length.ensures (length c.as_mut_slice.result.now) (omega (arith, c.as_mut_slice.ensures.len, c.in_ok-text.ensures.len))
 
 pub returns : goal.returns
 returns g c =
     let m = g.L.Language.meaning c.args.language.now in
-    let part = c.write-front.new.part in
+    let part = c.write_front.new.part in
     let n = c.text_length.result in
-    let made = c.in-ok-text.ensures.len in
-    let all = filled_text m c.args.tree.now c.in-ok-table.table c.in-ok-table.ensures n c.text_length.ensures c.as-mut-slice.result.now part (omega (arith, c.as-mut-slice.ensures.len, made)) c.write-front.ensures in
-    let same = take_at part (drop (length part) c.in-ok-text.text.items) c.in-ok-text.text.len (omega (arith, all.0, made)) in
+    let made = c.in_ok-text.ensures.len in
+    let all = filled_text m c.args.tree.now c.in_ok-table.table c.in_ok-table.ensures n c.text_length.ensures c.as_mut_slice.result.now part (omega (arith, c.as_mut_slice.ensures.len, made)) c.write_front.ensures in
+    let same = take_at part (drop (length part) c.in_ok-text.text.items) c.in_ok-text.text.len (omega (arith, all.0, made)) in
     let P : List ℕ → Type 0 = λ text. (tree_signature c.args.tree.now ≡ m.signature) × ((t : Tree) × IsTree (tree_signature c.args.tree.now) (bytes_of c.args.tree.now) t × TextOf m t text) in
     subst P (sym same) (all.1, all.2)

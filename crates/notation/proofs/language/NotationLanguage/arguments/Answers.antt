@@ -5,11 +5,11 @@ use Rattle.grammar.specs.Questions.{argument_list, function_arguments}
 use Rattle.notation.specs.Asked.{in_table}
 use Rattle.notation.proofs.language.NotationLanguage.arguments.Goals as goal
 
-pub returns-in-err-function : goal.returns-in-err-function
-returns-in-err-function c =
-    let there = in_table c.args.self.now.signature c.args.function None c.in-err-function.ensures in
-    ap (option_map argument_list) c.from-residual.ensures ∙ sym (ap (option_map function_arguments) there)
+pub returns-in_err-function : goal.returns-in_err-function
+returns-in_err-function c =
+    let there = in_table c.args.self.now.signature c.args.function None c.in_err-function.ensures in
+    ap (option_map argument_list) c.from_residual.ensures ∙ sym (ap (option_map function_arguments) there)
 
 pub returns : goal.returns
 returns c =
-    sym (ap (option_map function_arguments) (in_table c.args.self.now.signature c.args.function (Some c.in-ok-function.function) c.in-ok-function.ensures))
+    sym (ap (option_map function_arguments) (in_table c.args.self.now.signature c.args.function (Some c.in_ok-function.function) c.in_ok-function.ensures))

@@ -9,7 +9,7 @@ use Rattle.notation.proofs.language.NotationLanguage.word_length.Goals as goal
 pub returns-then-word-count : goal.returns-then-word-count
 returns-then-word-count c =
     let count = length (signature_in c.args.self.now).functions in
-    ap Some c.function-word-length.ensures ∙ sym (ap (option_map length) (function_word_at count c.args.word (omega arith)))
+    ap Some c.function_word_length.ensures ∙ sym (ap (option_map length) (function_word_at count c.args.word (omega arith)))
 
 pub returns-then-word-count-2 : goal.returns-then-word-count-2
 returns-then-word-count-2 c =

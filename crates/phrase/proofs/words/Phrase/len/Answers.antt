@@ -3,14 +3,14 @@ use Rattle.std.proofs.Common.{arith}
 use Rattle.phrase.proofs.Held.{held_count}
 use Rattle.phrase.proofs.words.Phrase.len.Goals as goal
 
-pub returns-then-self-lt-MOST-WORDS : goal.returns-then-self-lt-MOST-WORDS
-returns-then-self-lt-MOST-WORDS c = record {
+pub returns-then-self-lt-MOST_WORDS : goal.returns-then-self-lt-MOST_WORDS
+returns-then-self-lt-MOST_WORDS c = record {
   count = omega (arith, held_count c.args.self.now.words c.args.self.now.count);
   few = omega arith;
 }
 
-pub returns-else-self-lt-MOST-WORDS : goal.returns-else-self-lt-MOST-WORDS
-returns-else-self-lt-MOST-WORDS c = record {
+pub returns-else-self-lt-MOST_WORDS : goal.returns-else-self-lt-MOST_WORDS
+returns-else-self-lt-MOST_WORDS c = record {
   count = omega (arith, held_count c.args.self.now.words c.args.self.now.count);
   few = omega arith;
 }

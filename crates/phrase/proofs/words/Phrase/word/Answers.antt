@@ -5,8 +5,8 @@ use Rattle.phrase.specs.Spelled.{words_of}
 use Rattle.phrase.proofs.Held.{held_at}
 use Rattle.phrase.proofs.words.Phrase.word.Goals as goal
 
-pub offset-bounds-self-index : goal.offset-bounds-self-index
-offset-bounds-self-index c = omega (arith, c.len.ensures.few)
+pub offset_bounds-self-index : goal.offset_bounds-self-index
+offset_bounds-self-index c = omega (arith, c.len.ensures.few)
 
 pub bounds-self-index : goal.bounds-self-index
 bounds-self-index c = omega (arith, c.len.ensures.few)

@@ -16,10 +16,10 @@ returns c =
     let r = c.args.self.now in
     let n = r.words + 1 in
     let s = r.phrase.now in
-    let e = c.in-ok-end.end in
+    let e = c.in_ok-end.end in
     let after : walk_from n (e + 1) s ≡ walk_from n c.if-end-phrase.self s =
     elim c.if-end-phrase.branch [
       | then-end-phrase w ↦ let on : e + 1 ≡ c.if-end-phrase.self = omega arith in ap (λ p. walk_from n p s) on
       | else-end-phrase w ↦ nothing_left n (e + 1) s (omega arith) ∙ sym (nothing_left n c.if-end-phrase.self s (omega arith))
     ] in
-    record { phrase = refl; handed = handed_out r.words r.place e s c.in-ok-end.ensures after; counted = refl }
+    record { phrase = refl; handed = handed_out r.words r.place e s c.in_ok-end.ensures after; counted = refl }

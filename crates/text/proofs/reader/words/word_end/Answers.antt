@@ -4,12 +4,12 @@ use Rattle.text.proofs.Scan.{few_words, neither_stops, word_too_many, letter_too
 use Rattle.text.proofs.reader.words.word_end.Goals as goal
 use Rattle.text.proofs.reader.words.word_end.Goals.{then-end-start-2-via-then-end-start-2, then-end-start-2-via-else-end-start-2+then-end-phrase}
 
-pub returns-then-words-ge-MOST-WORDS : goal.returns-then-words-ge-MOST-WORDS
-returns-then-words-ge-MOST-WORDS c =
+pub returns-then-words-ge-MOST_WORDS : goal.returns-then-words-ge-MOST_WORDS
+returns-then-words-ge-MOST_WORDS c =
     cc (word_too_many c.loop-end.invariant (omega arith) (sym c.in-Letter.ensures) (omega arith) (omega arith))
 
-pub returns-then-end-start-ge-LONGEST-WORD : goal.returns-then-end-start-ge-LONGEST-WORD
-returns-then-end-start-ge-LONGEST-WORD c =
+pub returns-then-end-start-ge-LONGEST_WORD : goal.returns-then-end-start-ge-LONGEST_WORD
+returns-then-end-start-ge-LONGEST_WORD c =
     cc (letter_too_many c.loop-end.invariant (omega arith) (sym c.in-Letter.ensures) (few_words c.loop-end.invariant (λ begins. grind (arith, c.else-end-start.either))) (omega arith))
 
 pub loop-end-preserved : goal.loop-end-preserved

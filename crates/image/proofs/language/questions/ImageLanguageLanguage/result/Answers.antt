@@ -1,4 +1,4 @@
-use Rattle.std.proofs.Common.{Some, sym, ap, ◌∙◌, arith}
+use Rattle.std.proofs.Common.{Some, ap, ◌∙◌, arith}
 use Rattle.view.specs.Grammar.{image_meaning}
 use Rattle.view.specs.Views.{image}
 use Rattle.grammar.specs.Questions.{result_answer}

@@ -10,12 +10,12 @@ pub returns-then-word-words : goal.returns-then-word-words
 returns-then-word-words c =
     word_byte_none (image c.view-view.result) c.args.word c.args.index (omega arith) ∙ ap (λ b. word_byte_answer (image_meaning b) c.args.word c.args.index) c.view-view.ensures
 
-pub returns-then-index-word-length : goal.returns-then-index-word-length
-returns-then-index-word-length c =
+pub returns-then-index-word_length : goal.returns-then-index-word_length
+returns-then-index-word_length c =
     let s = sound_view (image c.view-view.result) _ c.view-view.ensures c.args.self.now.sound in
     word_byte_past (image c.view-view.result) s c.args.word c.args.index (omega arith) (omega arith) ∙ ap (λ b. word_byte_answer (image_meaning b) c.args.word c.args.index) c.view-view.ensures
 
 pub returns : goal.returns
 returns c =
     let s = sound_view (image c.view-view.result) _ c.view-view.ensures c.args.self.now.sound in
-    ap Some c.spelled-byte.ensures ∙ word_byte_told (image c.view-view.result) s c.args.word c.args.index (omega arith) (omega arith) ∙ ap (λ b. word_byte_answer (image_meaning b) c.args.word c.args.index) c.view-view.ensures
+    ap Some c.spelled_byte.ensures ∙ word_byte_told (image c.view-view.result) s c.args.word c.args.index (omega arith) (omega arith) ∙ ap (λ b. word_byte_answer (image_meaning b) c.args.word c.args.index) c.view-view.ensures
