@@ -16,7 +16,7 @@ tree_reason DepthOutOfRange = codes "the depth is not 1 to 6"
 tree_reason OtherSignature = codes "the language has another signature than the session"
 tree_reason (EndsEarly length) = codes "the draft ends early"
 tree_reason (LeftOver byte) = codes "bytes are left over after the draft"
-tree_reason (WrongNode byte) = codes "no function of the category that the place calls for, nor a hole where one may stand"
+tree_reason (WrongNode byte) = codes "neither a hole nor a function of the category that the place calls for"
 tree_reason (TooDeep byte) = codes "the node is deeper than the depth"
 
 abbrev pub phrase_reason : PhraseFault → List ℕ

@@ -40,7 +40,7 @@ impl Fault for TreeFault {
             TreeFault::EndsEarly { .. } => "the draft ends early",
             TreeFault::LeftOver { .. } => "bytes are left over after the draft",
             TreeFault::WrongNode { .. } =>
-                "no function of the category that the place calls for, nor a hole where one may stand",
+                "neither a hole nor a function of the category that the place calls for",
             TreeFault::TooDeep { .. } => "the node is deeper than the depth",
         }
     }

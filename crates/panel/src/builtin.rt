@@ -1,7 +1,6 @@
-// The built-in small port: what its two languages state, trees said in them, and phrases, drafts and calls read.
+// The built-in small port: what its two languages state, and phrases, drafts and calls read.
 use crate::file::print_image;
 use crate::print::{print_call, print_draft, print_phrase};
-use crate::trees::print_trees;
 use calls::samples;
 use port::images::{bridge_image, quay_image};
 use std::io;
@@ -29,7 +28,6 @@ pub fn run_builtin(rt: &HostRuntime) -> anyhow::Result<()> {
     print_image(rt, &quay_image())?;
     println!(rt; "Language B")?;
     print_image(rt, &bridge_image())?;
-    print_trees(rt)?;
     read_all(rt)?;
     Ok(())
 }

@@ -1,6 +1,6 @@
 // The command `say`: a tree, by the bytes of its code, in the language of an image from a file and in notation.
 use crate::file::read_image;
-use crate::trees::print_text;
+use crate::trees::{print_text, print_trees};
 use anyhow::anyhow;
 use grammar::language::Language;
 use grammar::signature::SignatureTable;
@@ -70,11 +70,10 @@ fn say_code<'a, L: Language>(
     }
 }
 
-// The arguments are the path of an image and the bytes of a code.
+// The arguments are the path of an image and the bytes of a code; with none, the trees of the small port are said.
 pub fn run_say(rt: &HostRuntime, mut arguments: Args) -> anyhow::Result<()> {
     let Some(path) = arguments.next() else {
-        eprintln!(rt; "panel: say takes the file of an image and the bytes of a code")?;
-        return Err(anyhow!("no image is given"));
+        return print_trees(rt);
     };
     let code = read_code(rt, arguments)?;
     let language = read_image(rt, path.as_str())?;

@@ -11,12 +11,13 @@ use Rattle.grammar.specs.Charts.{Counts}
 use Rattle.grammar.specs.Drafts.{Draft}
 use Rattle.grammar.specs.DraftWalk.{draft_walk, depth_check}
 use Rattle.grammar.specs.Languages.{Meaning, Words}
+use Rattle.grammar.specs.Linearization.{Linearizes, spaced}
 use Rattle.grammar.specs.PhraseWalk.{read_phrase}
 use Rattle.grammar.specs.Readings.{FullList}
 use Rattle.grammar.specs.Trees.{Tree, code}
 use Rattle.grammar.specs.Unknown.{FirstUnknown}
 use Rattle.layers.specs.Hidden.{hidden}
-use Rattle.linearizer.specs.Says.{Says}
+use Rattle.linearizer.specs.Says.{Says as SaysOn}
 use Rattle.notation.specs.Notations.{notation}
 use Rattle.writer.specs.PutDown.{put_down}
 use Rattle.port.specs.SmallPort.{port, Q, B, berth, rope, held, again}
@@ -49,15 +50,19 @@ RefusesPhrase bytes number place =
 abbrev pub HasUnknown : Meaning → List ℕ → ℕ → Type 0
 HasUnknown m bytes n = (words : Words) × (read_phrase bytes ≡ Ok words) × FirstUnknown m words n
 
+-- the tree's text in the language
+abbrev pub Says : Meaning → Tree → List ℕ → Type 0
+Says m t text = (words : Words) × Linearizes m t words × (spaced words ≡ text)
+
 -- the tree has this text in the language: from any start place on that leaves room for it, it is written, and nothing else
 abbrev pub SaysText : Meaning → Tree → List ℕ → Type 0
 SaysText m t text =
-    (page : List ℕ) (start : ℕ) → start + length text ≤ length page → Says port m t page start (Ok (length text)) (put_down page start text)
+    (page : List ℕ) (start : ℕ) → start + length text ≤ length page → SaysOn port m t page start (Ok (length text)) (put_down page start text)
 
 -- on such a page the tree is refused with this number at this place, and the page stays
 abbrev pub RefusesSaying : Meaning → Tree → List ℕ → ℕ → ℕ → ℕ → Type 0
 RefusesSaying m t page start number place =
-    (fault : SayFault) × Says port m t page start (Err fault) page × (say_refusal fault ≡ refuse number InSession place)
+    (fault : SayFault) × SaysOn port m t page start (Err fault) page × (say_refusal fault ≡ refuse number InSession place)
 
 -- a lone hole: any tree of the start category
 abbrev pub anything : List ℕ
@@ -94,10 +99,12 @@ pub record WorkedCases : Type 0 where
   pub depth_zero : RefusesDepth 0 7 0
   pub depth_seven : RefusesDepth 7 7 0
   -- saying
-  pub said_by_bridge : SaysText B (held rope) (codes "behold trosse tre")
+  pub said_by_bridge : Says B (held rope) (codes "behold trosse tre")
+  pub written_by_bridge : SaysText B (held rope) (codes "behold trosse tre")
   pub said_length : length (codes "behold trosse tre") ≡ 17
   pub page_one_short : (page : List ℕ) → length page ≡ 16 → RefusesSaying B (held rope) page 0 21 17
-  pub said_in_notation : SaysText (notation port) (held rope) (codes "f0 ( f2 )")
+  pub said_in_notation : Says (notation port) (held rope) (codes "f0 ( f2 )")
+  pub written_in_notation : SaysText (notation port) (held rope) (codes "f0 ( f2 )")
   pub notation_length : length (codes "f0 ( f2 )") ≡ 9
   pub rope_hidden : (page : List ℕ) (start : ℕ) → RefusesSaying (hidden (nat_eq 2) B) (again (held rope)) page start 20 2
   -- phrases
