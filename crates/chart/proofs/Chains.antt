@@ -1,6 +1,6 @@
 -- Chains of places: one item more, put in front of the chain of its category and form.
 use Rattle.std.proofs.Common.{◌≡◌, ℕ, suc, ◌+◌, ◌*◌, ◌<◌, ◌≤◌, Bool, true, false, cond, ◌&&◌, eqb, List, [], ◌∷◌, length, get_or, set, replicate, sym, refl, ap, ◌∙◌, subst, ⊎_elim, arith}
-use Rattle.std.specs.List.{AllByRecursion as All}
+use Rattle.std.specs.List.{AllByRecursion}
 use Rattle.std.proofs.lemmas.List.{get_or-replicate, get_or-set_other, get_or-set_same}
 use Rattle.std.proofs.lemmas.Bool.{and_parts, and_cases, cond-false, cond-true, eqb-false, eqb-true}
 use Rattle.chart.specs.declared.item.Item.{Item}
@@ -15,20 +15,20 @@ abbrev fits : ℕ → ℕ → Item → Bool
 fits c k x = eqb x.category c && eqb x.form k
 
 -- the places of items are not below where they are counted from
-places_high : (c k i : ℕ) (xs : List Item) → All (λ q. i ≤ q) (places_of c k i xs)
+places_high : (c k i : ℕ) (xs : List Item) → AllByRecursion (λ q. i ≤ q) (places_of c k i xs)
 places_high c k i [] = tt
 places_high c k i (x ∷ xs) = by (fits c k x) (higher (places_of c k (suc i) xs) (places_high c k (suc i) xs))
   where
-    higher : (qs : List ℕ) → All (λ q. suc i ≤ q) qs → All (λ q. i ≤ q) qs
+    higher : (qs : List ℕ) → AllByRecursion (λ q. suc i ≤ q) qs → AllByRecursion (λ q. i ≤ q) qs
     higher [] h = tt
     higher (q ∷ qs) h = (omega (arith, h.0), higher qs h.1)
 
-    by : (b : Bool) → All (λ q. i ≤ q) (places_of c k (suc i) xs) → All (λ q. i ≤ q) (cond b (i ∷ places_of c k (suc i) xs) (places_of c k (suc i) xs))
+    by : (b : Bool) → AllByRecursion (λ q. i ≤ q) (places_of c k (suc i) xs) → AllByRecursion (λ q. i ≤ q) (cond b (i ∷ places_of c k (suc i) xs) (places_of c k (suc i) xs))
     by true h = (omega arith, h)
     by false h = h
 
 -- a write below them leaves a chain
-chain_kept : (next : List ℕ) (i v p : ℕ) (qs : List ℕ) → All (λ q. suc i ≤ q) qs → Chain next p qs → Chain (set next i v) p qs
+chain_kept : (next : List ℕ) (i v p : ℕ) (qs : List ℕ) → AllByRecursion (λ q. suc i ≤ q) qs → Chain next p qs → Chain (set next i v) p qs
 chain_kept next i v p [] high chain = chain
 chain_kept next i v p (q ∷ qs) high (e, rest) =
     (e, subst (λ k. Chain (set next i v) k qs) (sym (get_or-set_other next i q v 0 (λ same. let le = high.0 in absurd (omega arith)))) (chain_kept next i v (get_or next q 0) qs high.1 rest))

@@ -1,6 +1,6 @@
 -- Walking along the first of some chains: the rows over the places so far are listed.
 use Rattle.std.proofs.Common.{◌≡◌, ℕ, suc, ◌+◌, ◌-◌, ◌<◌, ◌≤◌, Bool, true, false, List, [], ◌∷◌, ◌++◌, map, length, get_or, take, drop, set, sym, refl, ap, ◌∙◌, subst, append_assoc, append-nil, arith}
-use Rattle.std.specs.List.{flat_map, AllByRecursion as All}
+use Rattle.std.specs.List.{flat_map, AllByRecursion}
 use Rattle.std.proofs.lemmas.List.{flat_map_more, map-append, take_all}
 use Rattle.chart.specs.declared.edge.Edge.{Edge}
 use Rattle.chart.specs.Index.{Chain}
@@ -17,7 +17,7 @@ pub record Along (next : List ℕ) (place : ℕ) (before now : List Edge) (f : �
   pub left : List ℕ
   pub whole : qs ≡ done ++ left
   pub rises : Rises left
-  pub small : All (λ q. q < 512) left
+  pub small : AllByRecursion (λ q. q < 512) left
   pub chain : Chain next place left
   pub filled : Filled before (rows_over f arguments n others done) true now
 
@@ -56,7 +56,7 @@ module _ (next : List ℕ) (place : ℕ) (before now : List Edge) (f : ℕ) (arg
   pub along_end : place ≡ 512 → Filled before (rows_over f arguments n others qs) true now
   along_end e = by along.left along.whole along.small along.chain
     where
-      by : (left : List ℕ) → qs ≡ along.done ++ left → All (λ q. q < 512) left → Chain next place left → Filled before (rows_over f arguments n others qs) true now
+      by : (left : List ℕ) → qs ≡ along.done ++ left → AllByRecursion (λ q. q < 512) left → Chain next place left → Filled before (rows_over f arguments n others qs) true now
       by [] whole small chain = subst (λ ps. Filled before (rows_over f arguments n others ps) true now) (sym (whole ∙ append-nil along.done)) along.filled
       by (q ∷ left) whole small chain = let lt = small.0 in let same = chain.0 in absurd (omega arith)
 
@@ -70,8 +70,8 @@ module _ (next : List ℕ) (place : ℕ) (before now : List Edge) (f : ℕ) (arg
         by (q ∷ left) chain =
             (left, ap (λ p. p ∷ left) (sym chain.0), subst (λ p. Chain next (get_or next p 0) left) (sym chain.0) chain.1)
 
-    small_left : All (λ q. q < 512) (place ∷ next_place.0)
-    small_left = subst (All (λ q. q < 512)) next_place.1 along.small
+    small_left : AllByRecursion (λ q. q < 512) (place ∷ next_place.0)
+    small_left = subst (AllByRecursion (λ q. q < 512)) next_place.1 along.small
 
     rises_left : Rises (place ∷ next_place.0)
     rises_left = subst Rises next_place.1 along.rises
@@ -82,7 +82,7 @@ module _ (next : List ℕ) (place : ℕ) (before now : List Edge) (f : ℕ) (arg
     pub along_less : 512 - get_or next place 0 < 512 - place
     along_less = by next_place.0 next_place.2 rises_left.0 small_left.1
       where
-        by : (left : List ℕ) → Chain next (get_or next place 0) left → All (λ r. place < r) left → All (λ q. q < 512) left → 512 - get_or next place 0 < 512 - place
+        by : (left : List ℕ) → Chain next (get_or next place 0) left → AllByRecursion (λ r. place < r) left → AllByRecursion (λ q. q < 512) left → 512 - get_or next place 0 < 512 - place
         by [] chain higher small = let lt = along_within in omega arith
         by (q ∷ left) chain higher small = let same = chain.0 in let more = higher.0 in let lt = small.0 in omega arith
 
@@ -110,7 +110,7 @@ module _ (next : List ℕ) (place : ℕ) (before now : List Edge) (f : ℕ) (arg
         let rest = rows_on f arguments n others (along.done ++ place ∷ []) next_place.0 in
         subst (λ es. Filled before es false after) (sym (ap (rows_over f arguments n others) whole_on ∙ rest.1)) (filled_stop before (rows_over f arguments n others (along.done ++ place ∷ [])) after rest.0 (step after false h))
 
-pub along_start : (next : List ℕ) (p : ℕ) (before : List Edge) (f : ℕ) (arguments : List ℕ) (n : ℕ) (qs : List ℕ) (others : List (List ℕ)) → length before ≤ 4096 → Chain next p qs → Rises qs → All (λ q. q < 512) qs → Along next p before before f arguments n qs others
+pub along_start : (next : List ℕ) (p : ℕ) (before : List Edge) (f : ℕ) (arguments : List ℕ) (n : ℕ) (qs : List ℕ) (others : List (List ℕ)) → length before ≤ 4096 → Chain next p qs → Rises qs → AllByRecursion (λ q. q < 512) qs → Along next p before before f arguments n qs others
 along_start next p before f arguments n qs others fits chain rises small = record { done = []; left = qs; whole = refl; rises = rises; small = small; chain = chain; filled = filled_none before fits }
 
 -- the chains of no starts, and of some
@@ -126,7 +126,7 @@ pub record Parts (next starts : List ℕ) (chains : List (List ℕ)) : Type 0 wh
   pub are : chains ≡ first ∷ others
   pub chain : Chain next (get_or starts 0 0) first
   pub rises : Rises first
-  pub small : All (λ q. q < 512) first
+  pub small : AllByRecursion (λ q. q < 512) first
   pub rest : Chains next (take (length starts - 1) (drop 1 starts)) others
 
 pub chain_parts : (next starts : List ℕ) (chains : List (List ℕ)) → 0 < length starts → Chains next starts chains → Parts next starts chains

@@ -1,6 +1,6 @@
 -- The edges of a function: for each way to give its arguments forms for which there is a rule, every choice of items of these forms.
 use Rattle.std.specs.Prelude.{◌≡◌, ℕ, zero, suc, ◌+◌, ◌≤◌, List, [], ◌∷◌, ◌++◌, map, length, take, Some, None, Option}
-use Rattle.std.specs.List.{slice_get, flat_map, AllByRecursion as All}
+use Rattle.std.specs.List.{slice_get, flat_map, AllByRecursion}
 use Rattle.grammar.specs.Languages.{Meaning, Rule}
 use Rattle.grammar.specs.Signatures.{Function}
 use Rattle.measure.specs.Sizes.{padded}
@@ -30,7 +30,7 @@ form_edges m f xs (c ∷ cs) ks chains = flat_map (λ k. form_edges m f xs cs (k
 pub record FormsSoFar (m : Meaning) (f : ℕ) (categories forms starts : List ℕ) (chosen : ℕ) (index : Index) (xs : List Item) (function : Function) (ks : List ℕ) (chains : List (List ℕ)) : Type 0 where
   pub known : slice_get m.signature.functions f ≡ Some function
   pub count : length ks + length categories ≡ length function.arguments
-  pub small : All (λ k. k ≤ 7) ks
+  pub small : AllByRecursion (λ k. k ≤ 7) ks
   pub as_asked : forms ≡ padded ks
   pub far : length ks ≡ chosen
   pub chained : Chains index.next (take chosen starts) chains

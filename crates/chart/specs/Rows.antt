@@ -1,6 +1,6 @@
 -- Edges as a table lists them: a function with the places of its arguments' items.
 use Rattle.std.specs.Prelude.{◌≡◌, ℕ, suc, ◌+◌, ◌<◌, Bool, List, [], ◌∷◌, ◌++◌, map, length, take, nat_le, slice_set}
-use Rattle.std.specs.List.{flat_map, AllByRecursion as All}
+use Rattle.std.specs.List.{flat_map, AllByRecursion}
 use Rattle.chart.specs.declared.edge.Edge.{Edge}
 use Rattle.chart.specs.declared.edge.EdgeTable.{EdgeTable}
 use Rattle.chart.specs.Index.{Chain}
@@ -34,11 +34,11 @@ edge_over f arguments n row = record { function = f; arguments = filled_in argum
 -- numbers that rise
 abbrev pub Rises : List ℕ → Type 0
 Rises [] = Unit {0}
-Rises (q ∷ qs) = All (λ r. q < r) qs × Rises qs
+Rises (q ∷ qs) = AllByRecursion (λ r. q < r) qs × Rises qs
 
 -- chains from each of the starts, of places that rise below 512
 abbrev pub Chains : List ℕ → List ℕ → List (List ℕ) → Type 0
 Chains next [] [] = Unit {0}
 Chains next [] (qs ∷ chains) = ⊥
 Chains next (p ∷ starts) [] = ⊥
-Chains next (p ∷ starts) (qs ∷ chains) = Chain next p qs × Rises qs × All (λ q. q < 512) qs × Chains next starts chains
+Chains next (p ∷ starts) (qs ∷ chains) = Chain next p qs × Rises qs × AllByRecursion (λ q. q < 512) qs × Chains next starts chains

@@ -1,6 +1,6 @@
 -- Levels: the items of each depth follow from the edges over the items of the depth before.
 use Rattle.std.proofs.Common.{◌≡◌, ℕ, zero, suc, ◌-◌, ◌≤◌, List, [], ◌∷◌, Some, refl, arith}
-use Rattle.std.specs.List.{AllByRecursion as All}
+use Rattle.std.specs.List.{AllByRecursion}
 use Rattle.std.proofs.ByRecursion.{All-weaker}
 use Rattle.grammar.specs.Charts.{Edge, Edges, Item, ItemOf, Items}
 use Rattle.grammar.specs.Languages.{Meaning, Words}
@@ -27,13 +27,13 @@ module _ (m : Meaning) (phrase : Words) where
       )
 
   -- the items of trees within a depth, and trees within the depth for items of it
-  items_within : (ts : Trees) (d : ℕ) (items : List Item) → deepest ts ≤ d → AllItemOf m phrase ts items → All (Items m phrase d) items
+  items_within : (ts : Trees) (d : ℕ) (items : List Item) → deepest ts ≤ d → AllItemOf m phrase ts items → AllByRecursion (Items m phrase d) items
   items_within none d [] le all = tt
   items_within none d (i ∷ is) le all = absurd all
   items_within (more t ts) d [] le all = absurd all
   items_within (more t ts) d (i ∷ is) le all = ((t, omega arith, all.0), items_within ts d is (omega arith) all.1)
 
-  trees_within : (d : ℕ) (items : List Item) → All (Items m phrase d) items → (ts : Trees) × (deepest ts ≤ d) × AllItemOf m phrase ts items
+  trees_within : (d : ℕ) (items : List Item) → AllByRecursion (Items m phrase d) items → (ts : Trees) × (deepest ts ≤ d) × AllItemOf m phrase ts items
   trees_within d [] all = (none, omega arith, tt)
   trees_within d (i ∷ is) all =
       let first = all.0 in

@@ -1,6 +1,6 @@
 -- The element at a place of a list, also of one that is made of others.
 use Rattle.std.proofs.Common.{◌≡◌, ℕ, zero, suc, ◌-◌, ◌<◌, ◌≤◌, List, [], ◌∷◌, ◌++◌, map, length, drop, replicate, Some, None, sym, refl, ap, ◌∙◌, subst, arith}
-use Rattle.std.specs.List.{slice_get, range_with_len, AllByRecursion as All}
+use Rattle.std.specs.List.{slice_get, range_with_len, AllByRecursion}
 use Rattle.std.specs.Option.{option_map}
 use Rattle.std.proofs.lemmas.List.FromFn.{length-map-range_with_len, get_or-map-range_with_len}
 use Rattle.std.proofs.lemmas.List.{get_or-replicate, length-replicate}
@@ -48,7 +48,7 @@ drop_nth (y ∷ ys) zero x h = let same : y ≡ x = cc in ap (λ z. z ∷ ys) sa
 drop_nth (y ∷ ys) (suc i) x h = drop_nth ys i x h
 
 -- what holds of all holds of each
-pub all_nth : {X : Type 0} (P : X → Type 0) (xs : List X) (i : ℕ) (x : X) → All P xs → slice_get xs i ≡ Some x → P x
+pub all_nth : {X : Type 0} (P : X → Type 0) (xs : List X) (i : ℕ) (x : X) → AllByRecursion P xs → slice_get xs i ≡ Some x → P x
 all_nth P [] i x a h = absurd (none_some x h)
 all_nth P (y ∷ xs) zero x a h = let same : y ≡ x = cc in subst P same a.0
 all_nth P (y ∷ xs) (suc i) x a h = all_nth P xs i x a.1 h

@@ -1,6 +1,6 @@
 -- Windows, items and edges: what a phrase makes of all trees of a language up to a depth.
 use Rattle.std.specs.Prelude.{◌≡◌, ℕ, ◌-◌, ◌≤◌, List, [], ◌∷◌, ◌++◌, map, length, Some}
-use Rattle.std.specs.List.{slice_get, AllByRecursion as All}
+use Rattle.std.specs.List.{slice_get, AllByRecursion}
 use Rattle.grammar.specs.declared.symbol.Window.{Window}
 use Rattle.grammar.specs.declared.symbol.Window.TheVariants.{Inside, Outside}
 use Rattle.grammar.specs.Languages.{Meaning, Rule, Words}
@@ -58,7 +58,7 @@ pub record Edges (m : Meaning) (phrase : Words) (d : ℕ) (e : Edge) : Type 0 wh
   pub signed : Function
   pub known : slice_get m.signature.functions e.function ≡ Some signed
   pub categories : map item_category e.arguments ≡ signed.arguments
-  pub items : All (Items m phrase (d - 1)) e.arguments
+  pub items : AllByRecursion (Items m phrase (d - 1)) e.arguments
   pub rule : Rule
   pub ruled : m.rule e.function (map item_form e.arguments) ≡ Some rule
 

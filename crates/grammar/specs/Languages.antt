@@ -1,6 +1,6 @@
 -- Languages: what one means over a signature, and the law that each keeps.
 use Rattle.std.specs.Prelude.{◌≡◌, ℕ, ◌<◌, ◌≤◌, ◌⊎◌, List, length, Some, Option}
-use Rattle.std.specs.List.{slice_get, AllByRecursion as All}
+use Rattle.std.specs.List.{slice_get, AllByRecursion}
 use Rattle.grammar.specs.declared.symbol.Symbol.{Symbol}
 use Rattle.grammar.specs.declared.symbol.Symbol.TheVariants.{Word, Reference}
 use Rattle.grammar.specs.Signatures.{Signature, Function}
@@ -38,16 +38,16 @@ SymbolLawful m f (Reference a k) =
 -- a rule for a function, at one form for each of its arguments
 pub record RuleLawful (m : Meaning) (f : Function) (forms : List ℕ) (r : Rule) : Type 0 where
   pub one_form_each : length forms ≡ length f.arguments
-  pub forms_range : All (λ k. k ≤ 7) forms
+  pub forms_range : AllByRecursion (λ k. k ≤ 7) forms
   pub form_range : r.form ≤ 7
   pub one_sequence_each : slice_get m.dimensions f.result ≡ Some (length r.sequences)
-  pub sequence_range : All (λ symbols. length symbols ≤ 8) r.sequences
-  pub symbols_lawful : All (All (SymbolLawful m f)) r.sequences
+  pub sequence_range : AllByRecursion (λ symbols. length symbols ≤ 8) r.sequences
+  pub symbols_lawful : AllByRecursion (AllByRecursion (SymbolLawful m f)) r.sequences
 
 pub record FunctionLawful (s : Signature) (f : Function) : Type 0 where
   pub result_range : f.result < s.categories
   pub arity_range : length f.arguments ≤ 3
-  pub argument_range : All (λ c. c < s.categories) f.arguments
+  pub argument_range : AllByRecursion (λ c. c < s.categories) f.arguments
 
 pub record SignatureLawful (s : Signature) : Type 0 where
   pub some_category : 1 ≤ s.categories
@@ -55,14 +55,14 @@ pub record SignatureLawful (s : Signature) : Type 0 where
   pub start_range : s.start < s.categories
   pub some_function : 1 ≤ length s.functions
   pub function_range : length s.functions ≤ 64
-  pub functions_lawful : All (FunctionLawful s) s.functions
+  pub functions_lawful : AllByRecursion (FunctionLawful s) s.functions
 
 -- the law of a language, with every range
 pub record Lawful (m : Meaning) : Type 0 where
   pub signature_lawful : SignatureLawful m.signature
   pub one_dimension_each : length m.dimensions ≡ m.signature.categories
-  pub dimension_range : All (λ n. (1 ≤ n) × (n ≤ 4)) m.dimensions
+  pub dimension_range : AllByRecursion (λ n. (1 ≤ n) × (n ≤ 4)) m.dimensions
   pub word_range : length m.words ≤ 1024
-  pub spelling_range : All (λ w. (1 ≤ length w) × (length w ≤ 24)) m.words
-  pub spelling_permitted : All (All Permitted) m.words
+  pub spelling_range : AllByRecursion (λ w. (1 ≤ length w) × (length w ≤ 24)) m.words
+  pub spelling_permitted : AllByRecursion (AllByRecursion Permitted) m.words
   pub rules_lawful : (f : ℕ) (forms : List ℕ) (r : Rule) → m.rule f forms ≡ Some r → (function : Function) × (slice_get m.signature.functions f ≡ Some function) × RuleLawful m function forms r

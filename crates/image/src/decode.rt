@@ -1,7 +1,7 @@
 // Symbols and argument categories as an image encodes them.
 ghost use Rattle.std.specs.Prelude.{◌≡◌, ◌<◌, ◌≤◌};
 ghost use Rattle.view.specs.Grammar.{listing, symbol_of};
-ghost use Rattle.view.specs.Layout.{arity, argument as argument-of};
+ghost use Rattle.view.specs.Layout.{arity, argument as argument_of};
 ghost use Rattle.view.specs.Views.{image as bytes_of};
 ghost use Rattle.grammar.specs.Questions.{argument_list};
 
@@ -27,7 +27,7 @@ pub(crate) fn decode_symbol(bits: u16) -> Symbol
 // The categories of a function's arguments, of which there are three at most.
 pub(crate) fn decode_arguments(view: &ImageView, function: u8) -> Arguments
     requires { arity (bytes_of view.now) function ≤ 3 }
-    ensures { argument_list result ≡ listing (arity (bytes_of view.now) function) (argument-of (bytes_of view.now) function) }
+    ensures { argument_list result ≡ listing (arity (bytes_of view.now) function) (argument_of (bytes_of view.now) function) }
 {
     match view.arity(function) {
         0 => Arguments::Zero,

@@ -1,6 +1,6 @@
 -- Edges: all edges over the items of a depth, each once; and the counts of a chart.
 use Rattle.std.proofs.Common.{◌≡◌, ℕ, zero, suc, ◌+◌, ◌-◌, Bool, true, eqb, List, [], ◌∷◌, ◌++◌, map, length, is_some, Some, filter, sym, refl, ap, ◌∙◌, subst, inl, inr, ⊎_elim, arith}
-use Rattle.std.specs.List.{slice_get, flat_map, AllByRecursion as All}
+use Rattle.std.specs.List.{slice_get, flat_map, AllByRecursion}
 use Rattle.std.proofs.lemmas.Bool.{eqb-true, eq-eqb}
 use Rattle.grammar.proofs.Optional.{some_value}
 use Rattle.grammar.specs.Charts.{Item, Items, Edge, Edges, Counts, item_category, item_form}
@@ -45,7 +45,7 @@ distinct_pairwise (x ∷ xs) d = (holds_all (Apart x) xs (λ y h e. d.0 (subst (
 module _ (known : List Item) where
   -- a row of known items of the categories
   abbrev Row : List ℕ → List Item → Type 0
-  Row cs is = (map item_category is ≡ cs) × All (Holds known) is
+  Row cs is = (map item_category is ≡ cs) × AllByRecursion (Holds known) is
 
   rows_row : (cs : List ℕ) (is : List Item) → Holds (item_rows known cs) is → Row cs is
   rows_row [] is (inl e) = subst (Row []) (sym e) (refl, tt)

@@ -1,7 +1,7 @@
 -- What a change of the words alone, or of the rules alone, keeps of a language's law and answers.
 use Rattle.std.specs.Prelude.{◌≡◌, ℕ, List, length}
 use Rattle.std.proofs.Common.{sym, ap, ◌∙◌}
-use Rattle.std.specs.List.{slice_get, AllByRecursion as All}
+use Rattle.std.specs.List.{slice_get, AllByRecursion}
 use Rattle.std.proofs.ByRecursion.{All-weaker}
 use Rattle.grammar.specs.declared.symbol.Symbol.{Symbol}
 use Rattle.grammar.specs.declared.symbol.Symbol.TheVariants.{Word, Reference}
@@ -22,5 +22,5 @@ rule_kept m n f forms r words dimensions h = record {
   form_range = h.form_range;
   one_sequence_each = ap (λ d. slice_get d f.result) (sym dimensions) ∙ h.one_sequence_each;
   sequence_range = h.sequence_range;
-  symbols_lawful = All-weaker (All (SymbolLawful m f)) (All (SymbolLawful n f)) (All-weaker (SymbolLawful m f) (SymbolLawful n f) (symbol_kept m n f words dimensions)) r.sequences h.symbols_lawful;
+  symbols_lawful = All-weaker (AllByRecursion (SymbolLawful m f)) (AllByRecursion (SymbolLawful n f)) (All-weaker (SymbolLawful m f) (SymbolLawful n f) (symbol_kept m n f words dimensions)) r.sequences h.symbols_lawful;
 }

@@ -1,7 +1,7 @@
 -- A language in small letters: its law, and its answers from those below.
 use Rattle.std.specs.Prelude.{◌≡◌, ℕ, ◌+◌, ◌≤◌, ◌&&◌, length, Some, None, Option, nat_le, refl}
 use Rattle.std.proofs.Common.{sym, ap, inl, arith}
-use Rattle.std.specs.List.{slice_get, AllByRecursion as All}
+use Rattle.std.specs.List.{slice_get, AllByRecursion}
 use Rattle.std.specs.Option.{option_map}
 use Rattle.std.proofs.ByRecursion.{All-weaker, All-map}
 use Rattle.std.proofs.lemmas.List.{length-map}
@@ -42,7 +42,7 @@ small_byte m w i o told = rw (told, nth_map small_word m.words w) (by (slice_get
 abbrev Sized : Spelling → Type 0
 Sized w = (1 ≤ length w) × (length w ≤ 24)
 
-permitted : (w : Spelling) → All Permitted w → All Permitted (small_word w)
+permitted : (w : Spelling) → AllByRecursion Permitted w → AllByRecursion Permitted (small_word w)
 permitted w h = All-map Permitted small w (All-weaker Permitted (λ b. Permitted (small b)) small_permitted w h)
 
 pub small_lawful : (m : Meaning) → Lawful m → Lawful (small_letters m)
@@ -57,8 +57,8 @@ small_lawful m law =
           All-map Sized small_word m.words
           (All-weaker Sized (λ w. Sized (small_word w)) (λ w h. rw (length-map w small) h) m.words law.spelling_range);
       spelling_permitted =
-          All-map (All Permitted) small_word m.words
-          (All-weaker (All Permitted) (λ w. All Permitted (small_word w)) permitted m.words law.spelling_permitted);
+          All-map (AllByRecursion Permitted) small_word m.words
+          (All-weaker (AllByRecursion Permitted) (λ w. AllByRecursion Permitted (small_word w)) permitted m.words law.spelling_permitted);
       rules_lawful = λ f forms r h.
           let below = law.rules_lawful f forms r h in
           (below.0, below.1, rule_kept m (small_letters m) below.0 forms r (sym as_many) refl below.2);

@@ -1,6 +1,6 @@
 -- The words that a frame owes, and what its next symbol makes of them.
 use Rattle.std.proofs.Common.{◌≡◌, ℕ, zero, suc, ◌+◌, ◌<◌, ◌≤◌, List, [], ◌++◌, map, length, get_or, drop, Some, None, Option, sym, refl, ap, ◌∙◌, subst, add-one, arith}
-use Rattle.std.specs.List.{slice_get, flat_map, AllByRecursion as All}
+use Rattle.std.specs.List.{slice_get, flat_map, AllByRecursion}
 use Rattle.std.specs.Option.{option_map}
 use Rattle.std.proofs.lemmas.List.{drop_all}
 use Rattle.std.proofs.lemmas.Option.{slice_get-get_or}
@@ -166,7 +166,7 @@ module _ (m : Meaning) (law : Lawful m) where
         let q = symbol_of (Reference a k) i h in
         let of = answered_sequence m q.0 (measured_at table frame.place).forms frame.constituent q.1 q.2 in
         let rule = law.rules_lawful q.0 of.0 of.1 of.2 in
-        let lawful = all_nth (SymbolLawful m rule.0) q.1 i (Reference a k) (all_nth (All (SymbolLawful m rule.0)) of.1.sequences frame.constituent q.1 rule.2.symbols_lawful of.3) q.3 in
+        let lawful = all_nth (SymbolLawful m rule.0) q.1 i (Reference a k) (all_nth (AllByRecursion (SymbolLawful m rule.0)) of.1.sequences frame.constituent q.1 rule.2.symbols_lawful of.3) q.3 in
         lawful_small q.0 rule.0 a k rule.1 lawful
 
     pub symbols_short : length (frame_symbols m tree table frame) ≤ 8
@@ -209,7 +209,7 @@ module _ (m : Meaning) (law : Lawful m) where
         let function = categories in
         let rule = law.rules_lawful o.function (map said_form o.arguments) o.rule o.ruled in
         let same : rule.0 ≡ function.0 = cc (rule.1, function.1) in
-        let of = all_nth (SymbolLawful m rule.0) o.symbols frame.next (Reference a k) (all_nth (All (SymbolLawful m rule.0)) o.rule.sequences frame.constituent o.symbols rule.2.symbols_lawful o.sequence) h in
+        let of = all_nth (SymbolLawful m rule.0) o.symbols frame.next (Reference a k) (all_nth (AllByRecursion (SymbolLawful m rule.0)) o.rule.sequences frame.constituent o.symbols rule.2.symbols_lawful o.sequence) h in
         let lawful = subst (λ g. SymbolLawful m g (Reference a k)) same of in
         let small = lawful_small o.function function.0 a k function.1 lawful in
         let row = arguments_at t frame.place o.function o.trees o.there in

@@ -1,6 +1,6 @@
 -- The words of a language, byte by byte.
 use Rattle.std.proofs.Common.{◌≡◌, ℕ, zero, suc, ◌+◌, ◌≤◌, Bool, true, List, [], ◌∷◌, ◌++◌, length, get_or, take, Some, Option, sym, refl, ◌∙◌, add-one, arith}
-use Rattle.std.specs.List.{slice_get, AllByRecursion as All}
+use Rattle.std.specs.List.{slice_get, AllByRecursion}
 use Rattle.std.proofs.lemmas.List.{length-append, length-take-le}
 use Rattle.grammar.specs.Languages.{Lawful, Meaning, Words}
 use Rattle.grammar.specs.Questions.{at, word_byte_answer}
@@ -20,7 +20,7 @@ at_word (w ∷ ws) (suc n) i = at_word ws n i
 pub word_told : (m : Meaning) (n i : ℕ) (o : Option ℕ) → o ≡ word_byte_answer m n i → slice_get (spelling m n) i ≡ o
 word_told m n i o told = sym (told ∙ at_word m.words n i)
 
-short : (ws : Words) (n : ℕ) → All (λ w. (1 ≤ length w) × (length w ≤ 24)) ws → length (get_or ws n []) ≤ 24
+short : (ws : Words) (n : ℕ) → AllByRecursion (λ w. (1 ≤ length w) × (length w ≤ 24)) ws → length (get_or ws n []) ≤ 24
 short [] n a = omega arith
 short (w ∷ ws) zero a = a.0.1
 short (w ∷ ws) (suc n) a = short ws n a.1

@@ -1,6 +1,6 @@
 -- The question on a node's rule: its forms, padded to three, are the forms of its arguments, and its symbols keep the law.
 use Rattle.std.proofs.Common.{◌≡◌, ℕ, ◌≤◌, leb, List, [], ◌∷◌, map, length, Some, None, Option, sym, refl, ap, ◌∙◌, subst, arith}
-use Rattle.std.specs.List.{slice_get, AllByRecursion as All}
+use Rattle.std.specs.List.{slice_get, AllByRecursion}
 use Rattle.std.specs.Option.{option_map}
 use Rattle.std.proofs.lemmas.List.{length-map}
 use Rattle.std.proofs.lemmas.Bool.{cond-true, le-leb}
@@ -20,7 +20,7 @@ use Rattle.measure.specs.Sizes.{padded}
 use Rattle.measure.specs.Sums.{InRange, or_no_symbols}
 
 abbrev Small : List ℕ → Type 0
-Small ks = All (λ k. k ≤ 7) ks
+Small ks = AllByRecursion (λ k. k ≤ 7) ks
 
 -- three forms of which the first are those of the arguments, the others 0
 padded_forms : (ks : List ℕ) → length ks ≤ 3 → Small ks → forms_of (length ks) (padded ks) ≡ Some ks
@@ -63,7 +63,7 @@ answered_lawful m law f function known forms k i x h =
     let of = answered_sequence m f forms k there.0 there.1 in
     let rule = law.rules_lawful f of.0 of.1 of.2 in
     let same : rule.0 ≡ function = cc (rule.1, known) in
-    let lawful = all_nth (SymbolLawful m rule.0) there.0 i x (all_nth (All (SymbolLawful m rule.0)) of.1.sequences k there.0 rule.2.symbols_lawful of.3) there.2 in
+    let lawful = all_nth (SymbolLawful m rule.0) there.0 i x (all_nth (AllByRecursion (SymbolLawful m rule.0)) of.1.sequences k there.0 rule.2.symbols_lawful of.3) there.2 in
     subst (λ g. SymbolLawful m g x) same lawful
 
 in_range : (m : Meaning) → Lawful m → (function : Function) → length function.arguments ≤ 3 → (x : Symbol) → SymbolLawful m function x → InRange x
@@ -87,11 +87,11 @@ mutual
       let rule = law.rules_lawful f (map said_form parts.0) parts.1 parts.3 in
       subst (λ k. k ≤ 7) (sym (ap said_form parts.4)) rule.2.form_range
 
-  pub said_forms_range : (m : Meaning) → Lawful m → (ts : Trees) (all : List Said) → linearized_all m ts ≡ Some all → All (λ k. k ≤ 7) (map said_form all)
-  said_forms_range m law none all e = let same : [] ≡ all = cc in subst (λ xs. All (λ k. k ≤ 7) (map said_form xs)) same tt
+  pub said_forms_range : (m : Meaning) → Lawful m → (ts : Trees) (all : List Said) → linearized_all m ts ≡ Some all → AllByRecursion (λ k. k ≤ 7) (map said_form all)
+  said_forms_range m law none all e = let same : [] ≡ all = cc in subst (λ xs. AllByRecursion (λ k. k ≤ 7) (map said_form xs)) same tt
   said_forms_range m law (more t ts) all e =
       let parts = more_parts m t ts all e in
-      subst (λ xs. All (λ k. k ≤ 7) (map said_form xs)) (sym parts.4) (said_form_range m law t parts.0 parts.2, said_forms_range m law ts parts.1 parts.3)
+      subst (λ xs. AllByRecursion (λ k. k ≤ 7) (map said_form xs)) (sym parts.4) (said_form_range m law t parts.0 parts.2, said_forms_range m law ts parts.1 parts.3)
 
 pub said_count : (m : Meaning) (s : Signature) (cs : List ℕ) (ts : Trees) (all : List Said) → HaveCategories s cs ts → linearized_all m ts ≡ Some all → length all ≡ length cs
 said_count m s cs none all h e = let same : [] ≡ all = cc in omega (arith, ap length (sym same), ap length h)

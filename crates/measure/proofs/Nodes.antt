@@ -1,6 +1,6 @@
 -- A node's measure, from the row of its arguments.
 use Rattle.std.proofs.Common.{◌≡◌, ℕ, zero, suc, ◌+◌, ◌^◌, ◌≤◌, Bool, true, false, not, ◌&&◌, List, [], ◌∷◌, map, get_or, is_some, Some, None, Option, sym, refl, ap, ◌∙◌, subst, arith}
-use Rattle.std.specs.List.{AllByRecursion as All}
+use Rattle.std.specs.List.{AllByRecursion}
 use Rattle.std.specs.Option.{option_map}
 use Rattle.grammar.proofs.Optional.{none_some}
 use Rattle.grammar.specs.declared.signature.Arguments.{Arguments}
@@ -23,7 +23,7 @@ use Rattle.measure.specs.Sums.{argument_measures, ArgumentSize, ArgumentSizes}
 use Rattle.measure.proofs.Asked.{node_asked}
 
 -- an argument of a tree at most 6 deep has a measure within its bounds
-argument_bounded : (ts : Trees) (all : List Said) → deepest ts ≤ 5 → All (AllBounded (8 ^ deepest ts)) all → ArgumentSizes (argument_measures all)
+argument_bounded : (ts : Trees) (all : List Said) → deepest ts ≤ 5 → AllByRecursion (AllBounded (8 ^ deepest ts)) all → ArgumentSizes (argument_measures all)
 argument_bounded ts all deep bounded = (sizes 0, (sizes 1, (sizes 2, tt)))
   where
     small : (k n : ℕ) → ArgumentSize (constituent_size (get_or all k nothing_said) n)
@@ -32,7 +32,7 @@ argument_bounded ts all deep bounded = (sizes 0, (sizes 1, (sizes 2, tt)))
         let most : 8 ^ deepest ts ≤ 32768 = power_mono (deepest ts) 5 deep in
         (omega (arith, words.0, most), omega (arith, words.0, words.1, most))
 
-    sizes : (k : ℕ) → All ArgumentSize (measure_of (get_or all k nothing_said)).sizes
+    sizes : (k : ℕ) → AllByRecursion ArgumentSize (measure_of (get_or all k nothing_said)).sizes
     sizes k = (small k 0, (small k 1, (small k 2, (small k 3, tt))))
 
 -- the three forms are those of the arguments

@@ -1,6 +1,6 @@
 -- What a rule makes of the sizes of its arguments.
 use Rattle.std.specs.Prelude.{ℕ, ◌<◌, ◌≤◌, List, [], ◌∷◌, Some, None, Option, slice_index_or}
-use Rattle.std.specs.List.{flat_map, AllByRecursion as All}
+use Rattle.std.specs.List.{flat_map, AllByRecursion}
 use Rattle.grammar.specs.declared.symbol.Symbol.{Symbol}
 use Rattle.grammar.specs.declared.symbol.Symbol.TheVariants.{Word, Reference}
 use Rattle.grammar.specs.Languages.{Meaning, Words}
@@ -20,7 +20,7 @@ abbrev pub ArgumentSize : Size → Type 0
 ArgumentSize s = (s.words ≤ 32768) × (s.bytes ≤ 786432)
 
 abbrev pub ArgumentSizes : List Measure → Type 0
-ArgumentSizes ms = All (λ (m : Measure). All ArgumentSize m.sizes) ms
+ArgumentSizes ms = AllByRecursion (λ (m : Measure). AllByRecursion ArgumentSize m.sizes) ms
 
 -- a reference that names one of three arguments and one of four constituents
 abbrev pub InRange : Symbol → Type 0

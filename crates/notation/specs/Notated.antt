@@ -1,7 +1,7 @@
 -- The notation of a lawful signature keeps the law of a language.
 use Rattle.std.specs.Prelude.{◌≡◌, ℕ, zero, suc, ◌+◌, ◌<◌, ◌≤◌, true, List, [], ◌∷◌, length, replicate, Some, None, Option, ◌==◌, slice_index_or, refl}
 use Rattle.std.proofs.Common.{ap, subst, ◌∙◌, arith}
-use Rattle.std.specs.List.{slice_get, AllByRecursion as All}
+use Rattle.std.specs.List.{slice_get, AllByRecursion}
 use Rattle.std.proofs.ByRecursion.{All-get_or}
 use Rattle.std.proofs.lemmas.List.{length-replicate}
 use Rattle.std.proofs.lemmas.Option.{slice_get-get_or}
@@ -20,19 +20,19 @@ one_each [] (k ∷ ks) h = absurd (false≢true h)
 one_each (c ∷ cs) [] h = absurd (false≢true h)
 one_each (c ∷ cs) (k ∷ ks) h = ap suc (one_each cs ks (and_parts (k == 0) (zero_each cs ks) h).1)
 
-small_each : (arguments forms : List ℕ) → zero_each arguments forms ≡ true → All (λ k. k ≤ 7) forms
+small_each : (arguments forms : List ℕ) → zero_each arguments forms ≡ true → AllByRecursion (λ k. k ≤ 7) forms
 small_each [] [] h = tt
 small_each [] (k ∷ ks) h = absurd (false≢true h)
 small_each (c ∷ cs) [] h = absurd (false≢true h)
 small_each (c ∷ cs) (k ∷ ks) h =
     let parts = and_parts (k == 0) (zero_each cs ks) h in (omega (arith, eqb-true k 0 parts.0), small_each cs ks parts.1)
 
-all_ones : (n : ℕ) → All (λ k. (1 ≤ k) × (k ≤ 4)) (replicate n 1)
+all_ones : (n : ℕ) → AllByRecursion (λ k. (1 ≤ k) × (k ≤ 4)) (replicate n 1)
 all_ones zero = tt
 all_ones (suc n) = ((omega arith, omega arith), all_ones n)
 
 -- an element that a list has at a place is one of those that a property holds of
-all_nth : {X : Type 0} (P : X → Type 0) (xs : List X) (i : ℕ) (x : X) → All P xs → slice_get xs i ≡ Some x → P x
+all_nth : {X : Type 0} (P : X → Type 0) (xs : List X) (i : ℕ) (x : X) → AllByRecursion P xs → slice_get xs i ≡ Some x → P x
 all_nth P xs i x all e =
     let lt = nth_below xs i x e in
     let read = slice_get-get_or xs i x lt in
@@ -61,7 +61,7 @@ module _ (s : Signature) (law : SignatureLawful s) (f : ℕ) (function : Functio
   argument : {arguments : List ℕ} (a c : ℕ) → function.arguments ≡ arguments → slice_get arguments a ≡ Some c → SymbolLawful (notation s) function (Reference a 0)
   argument a c e there = argument_lawful a c (ap (λ cs. slice_get cs a) e ∙ there)
 
-  symbols : (arguments : List ℕ) → function.arguments ≡ arguments → length arguments ≤ 3 → (length (written (length s.functions) f arguments) ≤ 8) × All (SymbolLawful (notation s) function) (written (length s.functions) f arguments)
+  symbols : (arguments : List ℕ) → function.arguments ≡ arguments → length arguments ≤ 3 → (length (written (length s.functions) f arguments) ≤ 8) × AllByRecursion (SymbolLawful (notation s) function) (written (length s.functions) f arguments)
   symbols [] e few = (omega arith, (name, tt))
   symbols (a ∷ []) e few = (omega arith, (name, (open_lawful, (argument 0 a e refl, (close_lawful, tt)))))
   symbols (a ∷ b ∷ []) e few =

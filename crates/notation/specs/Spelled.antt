@@ -1,7 +1,7 @@
 -- The words of a notation: what stands at each number, how they are spelled, and that they are permitted.
 use Rattle.std.specs.Prelude.{◌≡◌, ℕ, zero, suc, ◌+◌, ◌-◌, ◌/◌, ◌%◌, ◌<◌, ◌≤◌, [], ◌∷◌, ◌++◌, map, length, Some, refl}
 use Rattle.std.proofs.Common.{sym, ap, subst, ◌∙◌, inl, ⊎_elim, arith}
-use Rattle.std.specs.List.{slice_get, range_with_len, AllByRecursion as All}
+use Rattle.std.specs.List.{slice_get, range_with_len, AllByRecursion}
 use Rattle.std.specs.Option.{option_map}
 use Rattle.std.proofs.lemmas.List.FromFn.{length-map-range_with_len}
 use Rattle.std.proofs.lemmas.Fmt.{decimal_digit, decimal_step}
@@ -45,7 +45,7 @@ abbrev Digit : ℕ → Type 0
 Digit d = (48 ≤ d) × (d ≤ 57)
 
 -- what holds of an f before one digit or two, and of the marks, holds of all words
-all_words : (P : Spelling → Type 0) → ((d : ℕ) → Digit d → P (0x66 ∷ d ∷ [])) → ((d e : ℕ) → Digit d → Digit e → P (0x66 ∷ d ∷ e ∷ [])) → All P marks → (count : ℕ) → count ≤ 64 → All P (notation_words count)
+all_words : (P : Spelling → Type 0) → ((d : ℕ) → Digit d → P (0x66 ∷ d ∷ [])) → ((d e : ℕ) → Digit d → Digit e → P (0x66 ∷ d ∷ e ∷ [])) → AllByRecursion P marks → (count : ℕ) → count ≤ 64 → AllByRecursion P (notation_words count)
 all_words P one two of_marks count few =
     All-append P (map function_word (range_with_len 0 count)) marks (All-map P function_word (range_with_len 0 count) (each 0 count (omega arith))) of_marks
   where
@@ -56,20 +56,20 @@ all_words P one two of_marks count few =
         (λ high. subst P (sym (long_word n high h)) (two (48 + n / 10) (48 + n % 10) (omega arith, omega arith) (omega arith, omega arith)))
         (cases_lt n 10)
 
-    each : (a n : ℕ) → a + n ≤ 64 → All (λ k. P (function_word k)) (range_with_len a n)
+    each : (a n : ℕ) → a + n ≤ 64 → AllByRecursion (λ k. P (function_word k)) (range_with_len a n)
     each a zero h = tt
     each a (suc n) h = (of_function a (omega arith), each (a + 1) n (omega arith))
 
 abbrev Sized : Spelling → Type 0
 Sized w = (1 ≤ length w) × (length w ≤ 24)
 
-pub words_sized : (count : ℕ) → count ≤ 64 → All Sized (notation_words count)
+pub words_sized : (count : ℕ) → count ≤ 64 → AllByRecursion Sized (notation_words count)
 words_sized =
     all_words Sized (λ d h. (omega arith, omega arith)) (λ d e h k. (omega arith, omega arith))
     ((omega arith, omega arith), ((omega arith, omega arith), ((omega arith, omega arith), tt)))
 
-pub words_permitted : (count : ℕ) → count ≤ 64 → All (All Permitted) (notation_words count)
+pub words_permitted : (count : ℕ) → count ≤ 64 → AllByRecursion (AllByRecursion Permitted) (notation_words count)
 words_permitted =
-    all_words (All Permitted) (λ d h. (inl (omega arith, omega arith), (inl (omega arith, omega arith), tt)))
+    all_words (AllByRecursion Permitted) (λ d h. (inl (omega arith, omega arith), (inl (omega arith, omega arith), tt)))
     (λ d e h k. (inl (omega arith, omega arith), (inl (omega arith, omega arith), (inl (omega arith, omega arith), tt))))
     ((inl (omega arith, omega arith), tt), ((inl (omega arith, omega arith), tt), ((inl (omega arith, omega arith), tt), tt)))

@@ -1,6 +1,6 @@
 -- The worked cases of the small port, as one statement.
 use Rattle.std.specs.Prelude.{◌≡◌, ℕ, ◌+◌, ◌≤◌, List, [], ◌∷◌, length, Ok, Err, codes, nat_eq}
-use Rattle.std.specs.List.{AllByRecursion as All}
+use Rattle.std.specs.List.{AllByRecursion}
 use Rattle.refusals.specs.declared.kinds.Layer.TheVariants.{Tree as InTree, Phrase as InPhrase, Session as InSession}
 use Rattle.fault.specs.declared.kinds.PhraseFault.{PhraseFault}
 use Rattle.fault.specs.declared.kinds.SayFault.{SayFault}
@@ -108,6 +108,6 @@ pub record WorkedCases : Type 0 where
   pub notation_length : length (codes "f0 ( f2 )") ≡ 9
   pub rope_hidden : (page : List ℕ) (start : ℕ) → RefusesSaying (hidden (nat_eq 2) B) (again (held rope)) page start 20 2
   -- phrases
-  pub nothing_sent : All (λ d. Lists anything [] d []) (1 ∷ 2 ∷ 3 ∷ 4 ∷ 5 ∷ 6 ∷ [])
+  pub nothing_sent : AllByRecursion (λ d. Lists anything [] d []) (1 ∷ 2 ∷ 3 ∷ 4 ∷ 5 ∷ 6 ∷ [])
   pub capital_letter : HasUnknown Q (codes "Hold three") 0
   pub two_blanks : RefusesPhrase (codes "hold  three") 12 5

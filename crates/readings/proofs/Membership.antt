@@ -1,6 +1,6 @@
 -- What lists hold that are joined, mapped or filtered, and lists of which each earlier element is related to every later one.
 use Rattle.std.proofs.Common.{◌≡◌, Bool, true, false, cond, ◌⊎◌, List, [], ◌∷◌, ◌++◌, map, filter, sym, refl, ap, ◌∙◌, subst, inl, inr, ⊎_elim}
-use Rattle.std.specs.List.{flat_map, AllByRecursion as All}
+use Rattle.std.specs.List.{flat_map, AllByRecursion}
 use Rattle.std.proofs.ByRecursion.{All-append, All-weaker}
 use Rattle.grammar.specs.Lists.{Holds}
 
@@ -19,12 +19,12 @@ module _ {A : Type 0} where
   holds_cases (z ∷ xs) ys x (inl e) = inl (inl e)
   holds_cases (z ∷ xs) ys x (inr h) = ⊎_elim (λ k. inl (inr k)) inr (holds_cases xs ys x h)
 
-  pub all_holds : (P : A → Type 0) (xs : List A) → All P xs → (x : A) → Holds xs x → P x
+  pub all_holds : (P : A → Type 0) (xs : List A) → AllByRecursion P xs → (x : A) → Holds xs x → P x
   all_holds P [] a x h = absurd h
   all_holds P (y ∷ ys) a x (inl e) = subst P (sym e) a.0
   all_holds P (y ∷ ys) a x (inr h) = all_holds P ys a.1 x h
 
-  pub holds_all : (P : A → Type 0) (xs : List A) → ((x : A) → Holds xs x → P x) → All P xs
+  pub holds_all : (P : A → Type 0) (xs : List A) → ((x : A) → Holds xs x → P x) → AllByRecursion P xs
   holds_all P [] f = tt
   holds_all P (y ∷ ys) f = (f y (inl refl), holds_all P ys (λ x h. f x (inr h)))
 
@@ -74,7 +74,7 @@ module _ {A B : Type 0} (f : A → List B) where
 -- each earlier element is related to every later one
 abbrev pub Pairwise : {A : Type 0} → (A → A → Type 0) → List A → Type 0
 Pairwise R [] = Unit {0}
-Pairwise R (x ∷ xs) = All (R x) xs × Pairwise R xs
+Pairwise R (x ∷ xs) = AllByRecursion (R x) xs × Pairwise R xs
 
 module _ {A : Type 0} (R : A → A → Type 0) where
   pub pairwise_append : (xs ys : List A) → Pairwise R xs → Pairwise R ys → ((x y : A) → Holds xs x → Holds ys y → R x y) → Pairwise R (xs ++ ys)
@@ -98,6 +98,6 @@ pub pairwise_map : {A B : Type 0} (R : A → A → Type 0) (S : B → B → Type
 pairwise_map R S f step [] p = tt
 pairwise_map R S f step (x ∷ xs) p = (moved xs p.0, pairwise_map R S f step xs p.1)
   where
-    moved : (ys : List _) → All (R x) ys → All (S (f x)) (map f ys)
+    moved : (ys : List _) → AllByRecursion (R x) ys → AllByRecursion (S (f x)) (map f ys)
     moved [] a = tt
     moved (y ∷ ys) a = (step x y a.0, moved ys a.1)

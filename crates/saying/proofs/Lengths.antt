@@ -1,6 +1,6 @@
 -- How long what is said can be.
 use Rattle.std.proofs.Common.{◌≡◌, ℕ, zero, suc, ◌+◌, ◌-◌, ◌*◌, ◌^◌, ◌≤◌, max, List, [], ◌∷◌, ◌++◌, map, length, get_or, Some, sym, refl, ap, subst, mul-le-mul_right, arith, length-append}
-use Rattle.std.specs.List.{flat_map, AllByRecursion as All}
+use Rattle.std.specs.List.{flat_map, AllByRecursion}
 use Rattle.std.proofs.ByRecursion.{All-weaker, All-map}
 use Rattle.grammar.specs.declared.symbol.Symbol.{Symbol}
 use Rattle.grammar.specs.declared.symbol.Symbol.TheVariants.{Word, Reference}
@@ -27,18 +27,18 @@ abbrev pub Bounded : ℕ → Words → Type 0
 Bounded n ws = (length ws ≤ n) × (spelled_bytes ws ≤ 24 * length ws)
 
 abbrev pub AllBounded : ℕ → Said → Type 0
-AllBounded n s = All (Bounded n) s.constituents
+AllBounded n s = AllByRecursion (Bounded n) s.constituents
 
 wider : (n k : ℕ) → n ≤ k → (s : Said) → AllBounded n s → AllBounded k s
 wider n k le s b = All-weaker (Bounded n) (Bounded k) (λ ws p. (omega (arith, p.0), p.1)) s.constituents b
 
 -- what holds of each element and of the default holds of what is read
-pub read_all : {A : Type 0} (P : A → Type 0) (xs : List A) (i : ℕ) (d : A) → All P xs → P d → P (get_or xs i d)
+pub read_all : {A : Type 0} (P : A → Type 0) (xs : List A) (i : ℕ) (d : A) → AllByRecursion P xs → P d → P (get_or xs i d)
 read_all P [] i d a p = p
 read_all P (x ∷ xs) zero d a p = a.0
 read_all P (x ∷ xs) (suc i) d a p = read_all P xs i d a.1 p
 
-module _ (m : Meaning) (law : Lawful m) (n : ℕ) (some : 1 ≤ n) (arguments : List Said) (bounded : All (AllBounded n) arguments) where
+module _ (m : Meaning) (law : Lawful m) (n : ℕ) (some : 1 ≤ n) (arguments : List Said) (bounded : AllByRecursion (AllBounded n) arguments) where
   symbol_bounded : (x : Symbol) → Bounded n (symbol_words m arguments x)
   symbol_bounded (Word k) =
       (some, let short : length (get_or m.words k []) ≤ 24 = read_all (λ w. length w ≤ 24) m.words k [] (All-weaker (λ w. (1 ≤ length w) × (length w ≤ 24)) (λ w. length w ≤ 24) (λ w p. p.1) m.words law.spelling_range) (omega arith) in omega arith)
@@ -54,7 +54,7 @@ module _ (m : Meaning) (law : Lawful m) (n : ℕ) (some : 1 ≤ n) (arguments : 
       let spelled = spelled_append (symbol_words m arguments x) (flat_map (symbol_words m arguments) xs) in
       (omega (arith, long, first.0, rest.0), omega (arith, long, spelled, first.1, rest.1))
 
-  rule_bounded : (r : Rule) → All (λ symbols. length symbols ≤ 8) r.sequences → AllBounded (8 * n) (by_rule m arguments r)
+  rule_bounded : (r : Rule) → AllByRecursion (λ symbols. length symbols ≤ 8) r.sequences → AllBounded (8 * n) (by_rule m arguments r)
   rule_bounded r few =
       All-map (Bounded (8 * n)) (flat_map (symbol_words m arguments)) r.sequences
       (All-weaker (λ symbols. length symbols ≤ 8) (λ symbols. Bounded (8 * n) (flat_map (symbol_words m arguments) symbols)) (λ symbols le. let p = sequence_bounded symbols in (omega (arith, p.0, mul-le-mul_right n le), p.1)) r.sequences few)
@@ -82,14 +82,14 @@ mutual
       let b = rule_bounded m law n (some_power (deepest ts)) parts.0 (trees_bounded ts m law parts.0 parts.2) parts.1 few in
       subst (AllBounded (8 ^ suc (deepest ts))) (sym parts.4) (subst (λ k. AllBounded k (by_rule m parts.0 parts.1)) (grown (deepest ts)) b)
 
-  pub trees_bounded : (ts : Trees) (m : Meaning) → Lawful m → (all : List Said) → linearized_all m ts ≡ Some all → All (AllBounded (8 ^ deepest ts)) all
-  trees_bounded none m law all e = subst (All (AllBounded 1)) (let same : [] ≡ all = cc in same) tt
+  pub trees_bounded : (ts : Trees) (m : Meaning) → Lawful m → (all : List Said) → linearized_all m ts ≡ Some all → AllByRecursion (AllBounded (8 ^ deepest ts)) all
+  trees_bounded none m law all e = subst (AllByRecursion (AllBounded 1)) (let same : [] ≡ all = cc in same) tt
   trees_bounded (more t ts) m law all e =
       let parts = more_parts m t ts all e in
       let k = max (depth t) (deepest ts) in
       let first = wider (8 ^ depth t) (8 ^ k) (power_mono (depth t) k (omega arith)) parts.0 (tree_bounded t m law parts.0 parts.2) in
       let rest = All-weaker (AllBounded (8 ^ deepest ts)) (AllBounded (8 ^ k)) (wider (8 ^ deepest ts) (8 ^ k) (power_mono (deepest ts) k (omega arith))) parts.1 (trees_bounded ts m law parts.1 parts.3) in
-      subst (All (AllBounded (8 ^ k))) (sym parts.4) (first, rest)
+      subst (AllByRecursion (AllBounded (8 ^ k))) (sym parts.4) (first, rest)
 
 pub constituents_are_bounded : ConstituentsAreBounded
 constituents_are_bounded m law t s e = tree_bounded t m law s e

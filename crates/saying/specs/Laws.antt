@@ -1,6 +1,6 @@
 -- The laws of saying, over every language: a tree is said or has one first mute node, and how long what is said can be.
 use Rattle.std.specs.Prelude.{◌≡◌, ℕ, ◌*◌, ◌^◌, ◌≤◌, ◌⊎◌, length, Some}
-use Rattle.std.specs.List.{AllByRecursion as All}
+use Rattle.std.specs.List.{AllByRecursion}
 use Rattle.grammar.specs.Languages.{Lawful, Meaning, Words}
 use Rattle.grammar.specs.Linearization.{Linearizes, Said, linearized, spaced}
 use Rattle.grammar.specs.Trees.{Tree, depth}
@@ -25,7 +25,7 @@ TextLengthBySums = (ws : Words) → length (spaced ws) ≡ text_length ws
 -- each constituent of a tree of depth d has at most 8 ^ d words, of 24 bytes at most
 abbrev pub ConstituentsAreBounded : Type 0
 ConstituentsAreBounded =
-    (m : Meaning) → Lawful m → (t : Tree) (s : Said) → linearized m t ≡ Some s → All (λ ws. (length ws ≤ 8 ^ depth t) × (spelled_bytes ws ≤ 24 * length ws)) s.constituents
+    (m : Meaning) → Lawful m → (t : Tree) (s : Said) → linearized m t ≡ Some s → AllByRecursion (λ ws. (length ws ≤ 8 ^ depth t) × (spelled_bytes ws ≤ 24 * length ws)) s.constituents
 
 -- so a tree of depth 6 at most says at most 262,144 words, and its text has at most 6,553,599 bytes
 abbrev pub TextsAreBounded : Type 0

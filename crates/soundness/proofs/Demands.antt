@@ -1,16 +1,16 @@
 -- What the check demands of sound bytes, taken apart.
 use Rattle.std.proofs.Common.{◌≡◌, ℕ, zero, suc, ◌+◌, ◌<◌, ◌≤◌, Bool, true, false, cond, leb, List, [], ◌∷◌, ◌++◌, Some, None, sym, refl, ap, ◌∙◌, subst, ⊎_elim, arith}
-use Rattle.std.specs.List.{range_with_len, flat_map, AllByRecursion as All}
+use Rattle.std.specs.List.{range_with_len, flat_map, AllByRecursion}
 use Rattle.std.proofs.lemmas.Bool.{leb-true, and_parts, cases_eq}
 use Rattle.grammar.proofs.Optional.{none_some}
 use Rattle.demands.specs.Check.{Demand, first_broken, each, every, within}
 
 -- where none of the demands is broken, each is kept
-pub all_kept : (ds : List Demand) → first_broken ds ≡ None → All (λ d. d.kept ≡ true) ds
+pub all_kept : (ds : List Demand) → first_broken ds ≡ None → AllByRecursion (λ d. d.kept ≡ true) ds
 all_kept [] e = tt
 all_kept (d ∷ ds) e = by d.kept refl e (λ k. all_kept ds k)
   where
-    by : (b : Bool) → d.kept ≡ b → cond b (first_broken ds) (Some d.fault) ≡ None → (first_broken ds ≡ None → All (λ x. x.kept ≡ true) ds) → (d.kept ≡ true) × All (λ x. x.kept ≡ true) ds
+    by : (b : Bool) → d.kept ≡ b → cond b (first_broken ds) (Some d.fault) ≡ None → (first_broken ds ≡ None → AllByRecursion (λ x. x.kept ≡ true) ds) → (d.kept ≡ true) × AllByRecursion (λ x. x.kept ≡ true) ds
     by true k h rest = (k, rest h)
     by false k h rest = absurd (none_some d.fault (sym h))
 

@@ -1,6 +1,6 @@
 -- The grammar that sound bytes state keeps the law of languages.
 use Rattle.std.proofs.Common.{◌≡◌, ℕ, ◌+◌, ◌-◌, ◌/◌, ◌%◌, ◌<◌, ◌≤◌, Bool, true, false, cond, ◌&&◌, eqb, ltb, leb, List, [], ◌∷◌, length, drop, Some, sym, refl, ap, ◌∙◌, subst, inl, inr, ⊎_elim, arith}
-use Rattle.std.specs.List.{slice_get, AllByRecursion as All}
+use Rattle.std.specs.List.{slice_get, AllByRecursion}
 use Rattle.std.specs.Str.{bytes_eq}
 use Rattle.std.proofs.lemmas.Slice.Eq.{bytes_eq-Decides}
 use Rattle.std.proofs.lemmas.List.{length-take-le, length-drop}
@@ -25,7 +25,7 @@ permitted_told c e =
     (λ h. let p = and_parts (leb 0x80 c) (leb c 0xFF) h in inr (leb-true _ _ p.0, leb-true _ _ p.1))
     (or_cases (leb 0x21 c && leb c 0x7E) (leb 0x80 c && leb c 0xFF) e)
 
-all_permitted_told : (cs : List ℕ) → all_permitted cs ≡ true → All Permitted cs
+all_permitted_told : (cs : List ℕ) → all_permitted cs ≡ true → AllByRecursion Permitted cs
 all_permitted_told [] e = tt
 all_permitted_told (c ∷ cs) e = let p = and_parts (permitted c) (all_permitted cs) e in (permitted_told c p.0, all_permitted_told cs p.1)
 
@@ -104,7 +104,7 @@ module _ (b : List ℕ) (s : Sound b) where
         form_range = p.form;
         one_sequence_each = listing_nth (dimension b) (categories b) (result b f) q.result_known ∙ ap Some (sym (listing_length (sequence b r) (rule_dimension b r)));
         sequence_range = listing_all (sequence b r) (λ symbols. length symbols ≤ 8) (rule_dimension b r) (λ k kl. let n = listing_length (λ j. symbol_of (symbol_bits b (first_symbol b r k + j))) (symbol_count b r k) in omega (arith, n, sequence_few r lt k kl));
-        symbols_lawful = listing_all (sequence b r) (All (SymbolLawful (image_meaning b) (image_function b f))) (rule_dimension b r) (λ k kl.
+        symbols_lawful = listing_all (sequence b r) (AllByRecursion (SymbolLawful (image_meaning b) (image_function b f))) (rule_dimension b r) (λ k kl.
             listing_all (λ j. symbol_of (symbol_bits b (first_symbol b r k + j))) (SymbolLawful (image_meaning b) (image_function b f)) (symbol_count b r k) (λ j jl.
             symbol_lawful f p.known (symbol_bits b (first_symbol b r k + j)) (s.symbol_sound r k j lt kl jl)));
       }
@@ -135,7 +135,7 @@ module _ (b : List ℕ) (s : Sound b) where
     dimension_range = listing_all (dimension b) (λ n. (1 ≤ n) × (n ≤ 4)) (categories b) s.dimension_range;
     word_range = omega (arith, listing_length (spelling b) (words b), s.word_range);
     spelling_range = listing_all (spelling b) (λ w. (1 ≤ length w) × (length w ≤ 24)) (words b) (λ w lt. let p = s.word_sound w lt in (omega (arith, word_long w lt, p.some), omega (arith, word_long w lt, p.short)));
-    spelling_permitted = listing_all (spelling b) (All Permitted) (words b) (λ w lt. all_permitted_told (spelling b w) (s.word_sound w lt).permitted);
+    spelling_permitted = listing_all (spelling b) (AllByRecursion Permitted) (words b) (λ w lt. all_permitted_told (spelling b w) (s.word_sound w lt).permitted);
     rules_lawful = rules_lawful;
   }
 

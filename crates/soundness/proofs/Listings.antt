@@ -1,6 +1,6 @@
 -- Lists made by counting: what they hold, how long they are, and what stands at a place.
 use Rattle.std.proofs.Common.{◌≡◌, ℕ, zero, suc, ◌+◌, ◌<◌, map, length, Some, ap, ◌∙◌, subst, inl, inr, arith}
-use Rattle.std.specs.List.{slice_get, range_with_len, AllByRecursion as All}
+use Rattle.std.specs.List.{slice_get, range_with_len, AllByRecursion}
 use Rattle.std.proofs.lemmas.List.FromFn.{length-map-range_with_len, get_or-map-range_with_len}
 use Rattle.std.proofs.lemmas.Option.{slice_get-get_or}
 use Rattle.view.specs.Grammar.{listing}
@@ -14,12 +14,12 @@ module _ {A : Type 0} (f : ℕ → A) where
   listing_nth n i lt =
       slice_get-get_or (listing n f) i (f i) (omega (arith, listing_length n)) ∙ ap Some (get_or-map-range_with_len f 0 n i i (f i) lt (omega arith))
 
-  all_from : (P : A → Type 0) (n a : ℕ) → ((i : ℕ) → i < n → P (f (a + i))) → All P (map f (range_with_len a n))
+  all_from : (P : A → Type 0) (n a : ℕ) → ((i : ℕ) → i < n → P (f (a + i))) → AllByRecursion P (map f (range_with_len a n))
   all_from P zero a h = tt
   all_from P (suc n) a h =
       (let e : a + 0 ≡ a = omega arith in subst (λ j. P (f j)) e (h 0 (omega arith)), all_from P n (a + 1) (λ i lt. let e : a + suc i ≡ a + 1 + i = omega arith in subst (λ j. P (f j)) e (h (suc i) (omega arith))))
 
-  pub listing_all : (P : A → Type 0) (n : ℕ) → ((i : ℕ) → i < n → P (f i)) → All P (listing n f)
+  pub listing_all : (P : A → Type 0) (n : ℕ) → ((i : ℕ) → i < n → P (f i)) → AllByRecursion P (listing n f)
   listing_all P n h = all_from P n 0 (λ i lt. let e : i ≡ 0 + i = omega arith in subst (λ j. P (f j)) e (h i lt))
 
   holds_from : (n a : ℕ) (x : A) → Holds (map f (range_with_len a n)) x → (i : ℕ) × (i < n) × (x ≡ f (a + i))

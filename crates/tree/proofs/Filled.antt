@@ -1,6 +1,6 @@
 -- A draft without holes is a tree, and a tree is a draft without holes.
 use Rattle.std.proofs.Common.{◌≡◌, ℕ, suc, ◌≤◌, max, eqb, List, [], ◌∷◌, ◌++◌, length, Some, None, Ok, Err, Result, sym, refl, ap, ◌∙◌, subst, ⊎_elim, arith}
-use Rattle.std.specs.List.{AllByRecursion as All}
+use Rattle.std.specs.List.{AllByRecursion}
 use Rattle.std.proofs.ByRecursion.{All-append}
 use Rattle.std.proofs.lemmas.Bool.{cases_Bool, cond-true, cond-false, eqb-true, eqb-false}
 use Rattle.fault.specs.declared.kinds.TreeFault.{TreeFault}
@@ -24,7 +24,7 @@ use Rattle.tree.specs.Read.{bytes_of, tree_signature}
 
 -- bytes that stand for no hole
 abbrev Solid : List ℕ → Type 0
-Solid bytes = All (λ b. b ≡ hole_byte → ⊥) bytes
+Solid bytes = AllByRecursion (λ b. b ≡ hole_byte → ⊥) bytes
 
 solid_parts : (xs ys : List ℕ) → Solid (xs ++ ys) → Solid xs × Solid ys
 solid_parts [] ys h = (tt, h)

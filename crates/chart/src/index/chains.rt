@@ -1,6 +1,6 @@
 // Making the chains of an index, and following them.
 ghost use Rattle.std.specs.Prelude.{◌≡◌, ◌+◌, ◌*◌, ◌<◌, slice_index};
-ghost use Rattle.std.specs.List.{AllByRecursion as All};
+ghost use Rattle.std.specs.List.{AllByRecursion};
 ghost use Rattle.chart.specs.Index.{InBounds, Indexed, head_of};
 ghost use Rattle.chart.specs.Places.{held};
 
@@ -20,7 +20,7 @@ fn slot(category: u8, form: u8) -> usize
 impl Index {
     // The index of the items that a table holds.
     pub(crate) fn of(items: &ItemTable) -> Index
-        requires { All InBounds (held items.now) }
+        requires { AllByRecursion InBounds (held items.now) }
         ensures { Indexed (held items.now) 0 result }
     {
         let mut heads = [END; 128];
