@@ -81,14 +81,14 @@ module _ (b : List ℕ) (s : Sound b) where
     pub symbol_none : (k j : ℕ) → rule_dimension b i ≤ k → None ≡ symbol_answer (image_meaning b) f forms k j
     symbol_none k j past = sym (ap (λ o. at o j) (sequences k ∙ listing_past (sequence b i) (rule_dimension b i) k past))
 
-    symbols_from : (k j : ℕ) → k < rule_dimension b i → symbol_answer (image_meaning b) f forms k j ≡ slice_get (sequence b i k) j
-    symbols_from k j lt = ap (λ o. at o j) (sequences k ∙ listing_nth (sequence b i) (rule_dimension b i) k lt)
+    symbols_at : (k j : ℕ) → k < rule_dimension b i → symbol_answer (image_meaning b) f forms k j ≡ slice_get (sequence b i k) j
+    symbols_at k j lt = ap (λ o. at o j) (sequences k ∙ listing_nth (sequence b i) (rule_dimension b i) k lt)
 
     pub symbol_past : (k j : ℕ) → k < rule_dimension b i → symbol_count b i k ≤ j → None ≡ symbol_answer (image_meaning b) f forms k j
-    symbol_past k j lt past = sym (symbols_from k j lt ∙ listing_past (λ n. symbol_of (symbol_bits b (first_symbol b i k + n))) (symbol_count b i k) j past)
+    symbol_past k j lt past = sym (symbols_at k j lt ∙ listing_past (λ n. symbol_of (symbol_bits b (first_symbol b i k + n))) (symbol_count b i k) j past)
 
     pub symbol_told : (k j : ℕ) → k < rule_dimension b i → j < symbol_count b i k → Some (symbol_of (symbol_bits b (first_symbol b i k + j))) ≡ symbol_answer (image_meaning b) f forms k j
-    symbol_told k j lt jl = sym (symbols_from k j lt ∙ listing_nth (λ n. symbol_of (symbol_bits b (first_symbol b i k + n))) (symbol_count b i k) j jl)
+    symbol_told k j lt jl = sym (symbols_at k j lt ∙ listing_nth (λ n. symbol_of (symbol_bits b (first_symbol b i k + n))) (symbol_count b i k) j jl)
 
     -- a symbol in use names one of three arguments
     pub symbol_low : (k j : ℕ) → k < rule_dimension b i → j < symbol_count b i k → symbol_bits b (first_symbol b i k + j) < 0x8400

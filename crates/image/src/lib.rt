@@ -5,4 +5,4 @@ mod decode;
 mod keys;
 pub mod language;
 pub mod load;
-mod lookup;
+pub mod lookup;

@@ -1,6 +1,6 @@
 // The command `say`: a tree, by the bytes of its code, in the language of an image from a file and in notation.
 use crate::file::read_image;
-use crate::trees::{print_text, print_trees};
+use crate::print::print_text;
 use anyhow::anyhow;
 use grammar::language::Language;
 use grammar::signature::SignatureTable;
@@ -70,13 +70,10 @@ fn say_code<'a, L: Language>(
     }
 }
 
-// The arguments are the path of an image and the bytes of a code; with none, the trees of the small port are said.
-pub fn run_say(rt: &HostRuntime, mut arguments: Args) -> anyhow::Result<()> {
-    let Some(path) = arguments.next() else {
-        return print_trees(rt);
-    };
+// The tree in the image of that path, by the bytes of its code.
+pub fn run_say(rt: &HostRuntime, path: &str, arguments: Args) -> anyhow::Result<()> {
     let code = read_code(rt, arguments)?;
-    let language = read_image(rt, path.as_str())?;
+    let language = read_image(rt, path)?;
     say_code(
         rt,
         &language,

@@ -6,7 +6,6 @@ mod command;
 mod file;
 mod print;
 mod states;
-mod trees;
 
 use builtin::run_builtin;
 use command::run_say;
@@ -16,14 +15,11 @@ use std::env;
 fn main(rt: HostRuntime) -> anyhow::Result<()> {
     let mut arguments = env::args(&rt)?;
     let _program = arguments.next();
+    let Some(first) = arguments.next() else {
+        return run_builtin(&rt);
+    };
     match arguments.next() {
-        Some(first) => {
-            if first.as_str() == "say" {
-                run_say(&rt, arguments)
-            } else {
-                print_file(&rt, first.as_str())
-            }
-        }
-        None => run_builtin(&rt),
+        Some(path) if first.as_str() == "say" => run_say(&rt, path.as_str(), arguments),
+        _ => print_file(&rt, first.as_str()),
     }
 }

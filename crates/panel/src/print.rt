@@ -74,3 +74,11 @@ pub fn print_call(
         Err(fault) => println!(rt; "    {fault}"),
     }
 }
+
+// A text with its length; the bytes as they are.
+pub fn print_text(rt: &HostRuntime, name: &str, text: &[u8]) -> io::Result<()> {
+    let length = text.len();
+    print!(rt; "{name} ({length} bytes): ")?;
+    rt.stdout().write_all(text)?;
+    println!(rt; "")
+}

@@ -6,6 +6,8 @@ mod drafts;
 #[cfg(test)]
 mod enumeration;
 #[cfg(test)]
+mod expect;
+#[cfg(test)]
 mod grammars;
 #[cfg(test)]
 mod images;

@@ -3,9 +3,9 @@
 // `dimensions 1 2` has a number for each category, `start 0` the start category, `function 0 1 1` a result category and those of the arguments,
 // `word hold` a spelling, and `rule 2 0 1 0 3 | w0 r01 | w1` a function, three forms, the result form and a sequence for each constituent: w0 is
 // word 0, r01 is of argument 0 the constituent 1.
+use crate::expect::expect;
 use image::language::ImageLanguage;
 use std::alloc::{AllocError, Global};
-use std::process::Abort;
 use std::test::Fail;
 
 // The sections of an image.
@@ -52,15 +52,13 @@ fn put_numbers(bytes: &mut Vec<u8>, text: &str) -> Result<usize, Fail> {
 }
 
 // A function's entry: its result, arity, and arguments filled up to three.
-fn put_function(
-    rt: &impl Abort,
-    sections: &mut Sections,
-    heap: Global,
-    text: &str,
-) -> Result<(), Fail> {
+fn put_function(sections: &mut Sections, heap: Global, text: &str) -> Result<(), Fail> {
     let mut numbers = Vec::new(heap);
     let count = put_numbers(&mut numbers, text)?;
-    assert!(rt; 1 <= count && count <= 4);
+    expect(
+        1 <= count && count <= 4,
+        "a function has a result and at most three arguments",
+    )?;
     let arity = u8::try_from(count.saturating_sub(1))?;
     sections
         .functions
@@ -119,12 +117,10 @@ fn put_sequence(sections: &mut Sections, text: &str) -> Result<(), Fail> {
 }
 
 // A rule's entry, filled up to four constituents.
-fn put_rule(rt: &impl Abort, sections: &mut Sections, text: &str) -> Result<(), Fail> {
+fn put_rule(sections: &mut Sections, text: &str) -> Result<(), Fail> {
     let mut parts = text.split('|');
-    assert_eq!(rt;
-        put_numbers(&mut sections.rules, parts.next().unwrap_or(""))?,
-        5
-    );
+    let count = put_numbers(&mut sections.rules, parts.next().unwrap_or(""))?;
+    expect(count == 5, "a rule begins with five numbers")?;
     let mut count: usize = 0;
     for part in parts {
         put_sequence(sections, part)?;
@@ -136,12 +132,7 @@ fn put_rule(rt: &impl Abort, sections: &mut Sections, text: &str) -> Result<(), 
     Ok(())
 }
 
-fn put_line(
-    rt: &impl Abort,
-    sections: &mut Sections,
-    heap: Global,
-    line: &str,
-) -> Result<(), Fail> {
+fn put_line(sections: &mut Sections, heap: Global, line: &str) -> Result<(), Fail> {
     if let Some(text) = line.strip_prefix("dimensions ") {
         let _count = put_numbers(&mut sections.dimensions, text)?;
         Ok(())
@@ -149,14 +140,13 @@ fn put_line(
         sections.start = text.parse::<u8>()?;
         Ok(())
     } else if let Some(text) = line.strip_prefix("function ") {
-        put_function(rt, sections, heap, text)
+        put_function(sections, heap, text)
     } else if let Some(text) = line.strip_prefix("word ") {
         put_word(sections, text)
     } else if let Some(text) = line.strip_prefix("rule ") {
-        put_rule(rt, sections, text)
+        put_rule(sections, text)
     } else {
-        assert!(rt; line.is_empty());
-        Ok(())
+        expect(line.is_empty(), "the line is of no kind")
     }
 }
 
@@ -180,10 +170,10 @@ fn join_sections(heap: Global, sections: &Sections) -> Result<Vec<u8>, Fail> {
 }
 
 // The language of the grammar in the text, by way of an image that is checked and loaded.
-pub fn make_language(rt: &impl Abort, heap: Global, text: &str) -> Result<ImageLanguage, Fail> {
+pub fn make_language(heap: Global, text: &str) -> Result<ImageLanguage, Fail> {
     let mut sections = Sections::new(heap);
     for line in text.lines() {
-        put_line(rt, &mut sections, heap, line.trim())?;
+        put_line(&mut sections, heap, line.trim())?;
     }
     let image = join_sections(heap, &sections)?;
     let mut language = ImageLanguage::new(heap)?;

@@ -1,71 +1,54 @@
 // The phrase reader on examples.
+use crate::expect::expect;
 use fault::kinds::PhraseFault;
-use std::process::Abort;
 use std::test::Fail;
 use text::reader::PhraseReader;
 
 // The next word has these bytes and this place.
-fn expect_word(
-    rt: &impl Abort,
-    reader: &mut PhraseReader,
-    text: &[u8],
-    place: usize,
-) -> Result<(), Fail> {
+fn expect_word(reader: &mut PhraseReader, text: &[u8], place: usize) -> Result<(), Fail> {
     let word = reader.next_word()?.ok_or("there is no word")?;
-    assert!(rt; word.text == text);
-    assert!(rt; word.place == place);
-    Ok(())
+    expect(word.text == text, "the word has other bytes")?;
+    expect(word.place == place, "the word has another place")
 }
 
-fn expect_end(rt: &impl Abort, reader: &mut PhraseReader) -> Result<(), Fail> {
-    assert!(rt; reader.next_word()?.is_none());
-    Ok(())
+fn expect_end(reader: &mut PhraseReader) -> Result<(), Fail> {
+    expect(reader.next_word()?.is_none(), "there is one more word")
 }
 
 // The reader stops with this fault, however often it is asked.
-fn expect_fault(
-    rt: &impl Abort,
-    reader: &mut PhraseReader,
-    fault: PhraseFault,
-) -> Result<(), Fail> {
+fn expect_fault(reader: &mut PhraseReader, fault: PhraseFault) -> Result<(), Fail> {
     for _ in 0..2 {
         match reader.next_word() {
             Ok(_) => return Err(Fail::new("no fault")),
-            Err(found) => assert_eq!(rt; found, fault),
+            Err(found) => expect(found == fault, "another fault")?,
         }
     }
     Ok(())
 }
 
 #[test]
-fn words_have_places(rt: HostRuntime) -> Result<(), Fail> {
+fn words_have_places() -> Result<(), Fail> {
     let mut reader = PhraseReader::new(b"hold three");
-    expect_word(&rt, &mut reader, b"hold", 0)?;
-    expect_word(&rt, &mut reader, b"three", 5)?;
-    expect_end(&rt, &mut reader)?;
-    expect_end(&rt, &mut PhraseReader::new(b""))
+    expect_word(&mut reader, b"hold", 0)?;
+    expect_word(&mut reader, b"three", 5)?;
+    expect_end(&mut reader)?;
+    expect_end(&mut PhraseReader::new(b""))
 }
 
 #[test]
-fn a_blank_stands_between_two_words(rt: HostRuntime) -> Result<(), Fail> {
+fn a_blank_stands_between_two_words() -> Result<(), Fail> {
     let mut double = PhraseReader::new(b"hold  three");
-    expect_word(&rt, &mut double, b"hold", 0)?;
-    expect_fault(&rt, &mut double, PhraseFault::WrongByte { byte: 5 })?;
+    expect_word(&mut double, b"hold", 0)?;
+    expect_fault(&mut double, PhraseFault::WrongByte { byte: 5 })?;
     let mut last = PhraseReader::new(b"hold ");
-    expect_fault(&rt, &mut last, PhraseFault::WrongByte { byte: 4 })
+    expect_fault(&mut last, PhraseFault::WrongByte { byte: 4 })
 }
 
 #[test]
-fn a_word_has_at_most_24_bytes(rt: HostRuntime) -> Result<(), Fail> {
+fn a_word_has_at_most_24_bytes() -> Result<(), Fail> {
     let letters = [b'a'; 25];
-    expect_word(
-        &rt,
-        &mut PhraseReader::new(&letters[0..24]),
-        &letters[0..24],
-        0,
-    )?;
+    expect_word(&mut PhraseReader::new(&letters[0..24]), &letters[0..24], 0)?;
     expect_fault(
-        &rt,
         &mut PhraseReader::new(&letters),
         PhraseFault::LongWord { byte: 24 },
     )
@@ -79,15 +62,15 @@ fn repeat_three(bytes: &mut [u8]) {
 }
 
 #[test]
-fn a_phrase_has_at_most_32_words(rt: HostRuntime) -> Result<(), Fail> {
+fn a_phrase_has_at_most_32_words() -> Result<(), Fail> {
     let mut bytes = [0; 197];
     repeat_three(&mut bytes);
     let mut enough = PhraseReader::new(&bytes[0..191]);
     let mut too_many = PhraseReader::new(&bytes);
     for i in 0..32 {
-        expect_word(&rt, &mut enough, b"three", i * 6)?;
-        expect_word(&rt, &mut too_many, b"three", i * 6)?;
+        expect_word(&mut enough, b"three", i * 6)?;
+        expect_word(&mut too_many, b"three", i * 6)?;
     }
-    expect_end(&rt, &mut enough)?;
-    expect_fault(&rt, &mut too_many, PhraseFault::TooManyWords { byte: 192 })
+    expect_end(&mut enough)?;
+    expect_fault(&mut too_many, PhraseFault::TooManyWords { byte: 192 })
 }

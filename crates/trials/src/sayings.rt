@@ -1,5 +1,6 @@
 // What is said of all trees of small grammars, held to texts and mute nodes that an enumeration of its own comes to.
 use crate::enumeration::{Built, Outcome, build_trees};
+use crate::expect::expect;
 use crate::grammars;
 use crate::maker::make_language;
 use fault::kinds::{SayFault, TreeFault};
@@ -10,7 +11,6 @@ use layers::small_letters::SmallLetters;
 use linearizer::say::say;
 use notation::Notation;
 use std::alloc::Global;
-use std::process::Abort;
 use std::test::Fail;
 use tree::code::TreeCode;
 
@@ -52,7 +52,6 @@ const MUTE: [(&[u8], usize); 7] = [
 
 // The text is granted from the start place on, with so many bytes of the page behind it, and no other byte changes.
 fn check_granted<L: Language>(
-    rt: &impl Abort,
     heap: Global,
     language: &L,
     tree: &TreeCode,
@@ -66,17 +65,16 @@ fn check_granted<L: Language>(
         expected.push(b'.')?;
     }
     let mut page = Vec::from_elem(heap, b'.', expected.len())?;
-    assert_eq!(rt;
-        say(tree, language, page.as_mut_slice(), start),
-        Ok(text.len())
-    );
-    assert!(rt; page.as_slice() == expected.as_slice());
-    Ok(())
+    let answer = say(tree, language, page.as_mut_slice(), start);
+    expect(answer == Ok(text.len()), "another answer than the length")?;
+    expect(
+        page.as_slice() == expected.as_slice(),
+        "another page than the text",
+    )
 }
 
 // The tree is refused on a page of that size, of which no byte changes.
 fn check_refused<L: Language>(
-    rt: &impl Abort,
     heap: Global,
     language: &L,
     tree: &TreeCode,
@@ -86,25 +84,23 @@ fn check_refused<L: Language>(
 ) -> Result<(), Fail> {
     let blank = Vec::from_elem(heap, b'.', size)?;
     let mut page = Vec::from_elem(heap, b'.', size)?;
-    assert_eq!(rt; say(tree, language, page.as_mut_slice(), start), Err(fault));
-    assert!(rt; page.as_slice() == blank.as_slice());
-    Ok(())
+    let answer = say(tree, language, page.as_mut_slice(), start);
+    expect(answer == Err(fault), "another answer than the fault")?;
+    expect(page.as_slice() == blank.as_slice(), "the page has changed")
 }
 
 // The text is granted on a page of its size and on a larger one, and refused on pages that are one byte short.
 fn check_said<L: Language>(
-    rt: &impl Abort,
     heap: Global,
     language: &L,
     tree: &TreeCode,
     text: &[u8],
 ) -> Result<(), Fail> {
     let length = text.len();
-    check_granted(rt, heap, language, tree, text, 0, 0)?;
-    check_granted(rt, heap, language, tree, text, 3, 2)?;
+    check_granted(heap, language, tree, text, 0, 0)?;
+    check_granted(heap, language, tree, text, 3, 2)?;
     if length > 0 {
         check_refused(
-            rt,
             heap,
             language,
             tree,
@@ -114,32 +110,22 @@ fn check_said<L: Language>(
         )?;
     }
     let size = length.saturating_add(3);
-    check_refused(
-        rt,
-        heap,
-        language,
-        tree,
-        size,
-        4,
-        SayFault::NoRoom { length },
-    )
+    check_refused(heap, language, tree, size, 4, SayFault::NoRoom { length })
 }
 
 // The mute node is told wherever the tree would begin.
 fn check_mute<L: Language>(
-    rt: &impl Abort,
     heap: Global,
     language: &L,
     tree: &TreeCode,
     node: usize,
 ) -> Result<(), Fail> {
-    check_refused(rt, heap, language, tree, 64, 0, SayFault::Mute { node })?;
-    check_refused(rt, heap, language, tree, 2, 3, SayFault::Mute { node })
+    check_refused(heap, language, tree, 64, 0, SayFault::Mute { node })?;
+    check_refused(heap, language, tree, 2, 3, SayFault::Mute { node })
 }
 
 // The tree of the code has this text.
 fn check_text<'a, L: Language>(
-    rt: &impl Abort,
     heap: Global,
     language: &L,
     signature: &'a SignatureTable,
@@ -147,12 +133,11 @@ fn check_text<'a, L: Language>(
     text: &[u8],
 ) -> Result<(), Fail> {
     let tree = TreeCode::read(signature, code)?;
-    check_said(rt, heap, language, &tree, text)
+    check_said(heap, language, &tree, text)
 }
 
 // The tree of the code has this first mute node.
 fn check_node<'a, L: Language>(
-    rt: &impl Abort,
     heap: Global,
     language: &L,
     signature: &'a SignatureTable,
@@ -160,20 +145,20 @@ fn check_node<'a, L: Language>(
     node: usize,
 ) -> Result<(), Fail> {
     let tree = TreeCode::read(signature, code)?;
-    check_mute(rt, heap, language, &tree, node)
+    check_mute(heap, language, &tree, node)
 }
 
 // The code is refused, since its root has another category than the start.
-fn check_elsewhere<'a>(rt: &impl Abort, signature: &'a SignatureTable, code: &'a [u8]) {
-    assert_eq!(rt;
-        TreeCode::read(signature, code).err(),
-        Some(TreeFault::WrongNode { byte: 0 })
-    );
+fn check_elsewhere<'a>(signature: &'a SignatureTable, code: &'a [u8]) -> Result<(), Fail> {
+    let fault = TreeCode::read(signature, code).err();
+    expect(
+        fault == Some(TreeFault::WrongNode { byte: 0 }),
+        "another fault than a wrong node",
+    )
 }
 
 // What is said of a tree of the start category is what was built; answers whether it has a text.
 fn check_built<L: Language>(
-    rt: &impl Abort,
     heap: Global,
     language: &L,
     signature: &SignatureTable,
@@ -183,7 +168,6 @@ fn check_built<L: Language>(
         Outcome::Said { strings, .. } => {
             let text = strings.get(0).ok_or("no constituent")?;
             check_text(
-                rt,
                 heap,
                 language,
                 signature,
@@ -193,27 +177,22 @@ fn check_built<L: Language>(
             Ok(true)
         }
         Outcome::Mute { node } => {
-            check_node(rt, heap, language, signature, built.code.as_slice(), *node)?;
+            check_node(heap, language, signature, built.code.as_slice(), *node)?;
             Ok(false)
         }
     }
 }
 
 // Goes through all trees up to the depth; answers how many of the start category have a text, and how many have none.
-fn compare<L: Language>(
-    rt: &impl Abort,
-    heap: Global,
-    language: &L,
-    depth: u8,
-) -> Result<(usize, usize), Fail> {
+fn compare<L: Language>(heap: Global, language: &L, depth: u8) -> Result<(usize, usize), Fail> {
     let signature = SignatureTable::of(language);
     let mut said: usize = 0;
     let mut mute: usize = 0;
     let trees = build_trees(heap, language, depth)?;
     for built in trees.iter() {
         if built.category != language.start() {
-            check_elsewhere(rt, &signature, built.code.as_slice());
-        } else if check_built(rt, heap, language, &signature, built)? {
+            check_elsewhere(&signature, built.code.as_slice())?;
+        } else if check_built(heap, language, &signature, built)? {
             said = said.saturating_add(1);
         } else {
             mute = mute.saturating_add(1);
@@ -226,9 +205,8 @@ fn compare<L: Language>(
 fn texts_by_hand(rt: HostRuntime) -> Result<(), Fail> {
     let heap = rt.alloc();
     for (grammar, code, text) in TEXTS {
-        let language = make_language(&rt, heap, grammar)?;
+        let language = make_language(heap, grammar)?;
         check_text(
-            &rt,
             heap,
             &language,
             &SignatureTable::of(&language),
@@ -242,10 +220,10 @@ fn texts_by_hand(rt: HostRuntime) -> Result<(), Fail> {
 #[test]
 fn mute_nodes_by_hand(rt: HostRuntime) -> Result<(), Fail> {
     let heap = rt.alloc();
-    let language = make_language(&rt, heap, grammars::FORMS)?;
+    let language = make_language(heap, grammars::FORMS)?;
     let signature = SignatureTable::of(&language);
     for (code, node) in MUTE {
-        check_node(&rt, heap, &language, &signature, code, node)?;
+        check_node(heap, &language, &signature, code, node)?;
     }
     Ok(())
 }
@@ -254,19 +232,19 @@ fn mute_nodes_by_hand(rt: HostRuntime) -> Result<(), Fail> {
 fn all_trees_of_images(rt: HostRuntime) -> Result<(), Fail> {
     let heap = rt.alloc();
     assert_eq!(rt;
-        compare(&rt, heap, &make_language(&rt, heap, grammars::TWICE)?, 6)?,
+        compare(heap, &make_language(heap, grammars::TWICE)?, 6)?,
         (40, 0)
     );
     assert_eq!(rt;
-        compare(&rt, heap, &make_language(&rt, heap, grammars::FOUR)?, 3)?,
+        compare(heap, &make_language(heap, grammars::FOUR)?, 3)?,
         (31, 0)
     );
     assert_eq!(rt;
-        compare(&rt, heap, &make_language(&rt, heap, grammars::FORMS)?, 3)?,
+        compare(heap, &make_language(heap, grammars::FORMS)?, 3)?,
         (6, 30)
     );
     assert_eq!(rt;
-        compare(&rt, heap, &make_language(&rt, heap, grammars::ALIKE)?, 3)?,
+        compare(heap, &make_language(heap, grammars::ALIKE)?, 3)?,
         (38, 0)
     );
     Ok(())
@@ -276,16 +254,15 @@ fn all_trees_of_images(rt: HostRuntime) -> Result<(), Fail> {
 fn all_trees_of_layers(rt: HostRuntime) -> Result<(), Fail> {
     let heap = rt.alloc();
     let small = SmallLetters {
-        below: make_language(&rt, heap, grammars::ALIKE)?,
+        below: make_language(heap, grammars::ALIKE)?,
     };
-    assert_eq!(rt; compare(&rt, heap, &small, 3)?, (38, 0));
-    assert_eq!(rt; compare(&rt, heap, &Notation::of(&small), 3)?, (38, 0));
+    assert_eq!(rt; compare(heap, &small, 3)?, (38, 0));
+    assert_eq!(rt; compare(heap, &Notation::of(&small), 3)?, (38, 0));
     let mut hiding = Hiding::new(small);
     assert!(rt; hiding.hide(1));
-    assert_eq!(rt; compare(&rt, heap, &hiding, 3)?, (5, 33));
+    assert_eq!(rt; compare(heap, &hiding, 3)?, (5, 33));
     let signature = SignatureTable::of(&hiding);
     check_text(
-        &rt,
         heap,
         hiding.below(),
         &signature,
@@ -293,34 +270,27 @@ fn all_trees_of_layers(rt: HostRuntime) -> Result<(), Fail> {
         "hål og hål".as_bytes(),
     )?;
     check_text(
-        &rt,
         heap,
         &Notation::of(&hiding),
         &signature,
         &[2, 0, 1],
         b"f2 ( f0 , f1 )",
     )?;
-    check_node(&rt, heap, &hiding, &signature, &[2, 0, 1], 2)
+    check_node(heap, &hiding, &signature, &[2, 0, 1], 2)
 }
 
 #[test]
 fn other_signatures(rt: HostRuntime) -> Result<(), Fail> {
     let heap = rt.alloc();
-    let language = make_language(&rt, heap, grammars::SHORT)?;
+    let language = make_language(heap, grammars::SHORT)?;
     let signature = SignatureTable::of(&language);
     let tree = TreeCode::read(&signature, &[0, 1])?;
-    check_said(&rt, heap, &language, &tree, b"a a")?;
-    check_mute(
-        &rt,
-        heap,
-        &make_language(&rt, heap, grammars::SPEECHLESS)?,
-        &tree,
-        1,
-    )?;
+    check_said(heap, &language, &tree, b"a a")?;
+    check_mute(heap, &make_language(heap, grammars::SPEECHLESS)?, &tree, 1)?;
     for grammar in grammars::OTHERS {
-        let other = make_language(&rt, heap, grammar)?;
-        check_refused(&rt, heap, &other, &tree, 8, 0, SayFault::OtherSignature)?;
-        check_refused(&rt, heap, &other, &tree, 2, 3, SayFault::OtherSignature)?;
+        let other = make_language(heap, grammar)?;
+        check_refused(heap, &other, &tree, 8, 0, SayFault::OtherSignature)?;
+        check_refused(heap, &other, &tree, 2, 3, SayFault::OtherSignature)?;
     }
     Ok(())
 }

@@ -10,7 +10,7 @@ use Rattle.grammar.specs.Languages.{Spelling, Words}
 use Rattle.grammar.proofs.Nth.{drop_nth, nth_below}
 use Rattle.congruence.specs.NodeItems.{IsWindowOf, put_together}
 use Rattle.phrase.specs.Places.{SameAt}
-use Rattle.windows.specs.Strings.{SameFrom, one_word, words_from}
+use Rattle.windows.specs.Strings.{SameFrom, one_word, words_at}
 use Rattle.windows.proofs.Together.{one_word_each, parts_at}
 
 -- an occurrence, by what is left of the phrase from its place on
@@ -44,37 +44,37 @@ word_after phrase i w s f =
 
 module _ (phrase : Words) where
   -- where the phrase has the same words, the string is there and stands
-  same_stands : (is : List ℕ) (i : ℕ) → i ≤ length phrase → SameFrom phrase is i → (s : Words) × (words_from phrase is ≡ Some s) × From phrase s i
+  same_stands : (is : List ℕ) (i : ℕ) → i ≤ length phrase → SameFrom phrase is i → (s : Words) × (words_at phrase is ≡ Some s) × From phrase s i
   same_stands [] i le h = ([], refl, (drop i phrase, refl, le))
   same_stands (j ∷ is) i le h =
       let here : SameAt phrase i j = subst (λ k. SameAt phrase k j) (let e : i + 0 ≡ i = omega arith in e) (h 0 (omega arith)) in
       let later : SameFrom phrase is (suc i) = λ k lt. subst (λ n. SameAt phrase n (get_or is k 0)) (let e : i + suc k ≡ suc i + k = omega arith in e) (h (suc k) (omega arith)) in
       let r = same_stands is (suc i) (omega (arith, nth_below phrase i here.0 here.1)) later in
-      (here.0 ∷ r.0, ap (λ o. put_together (option_map one_word o) (words_from phrase is)) here.2 ∙ ap (put_together (Some (here.0 ∷ []))) r.1, word_before phrase i here.0 r.0 here.1 r.2)
+      (here.0 ∷ r.0, ap (λ o. put_together (option_map one_word o) (words_at phrase is)) here.2 ∙ ap (put_together (Some (here.0 ∷ []))) r.1, word_before phrase i here.0 r.0 here.1 r.2)
 
   -- and where the string stands, the phrase has the same words
-  stands_same : (is : List ℕ) (s : Words) (i : ℕ) → words_from phrase is ≡ Some s → From phrase s i → SameFrom phrase is i
+  stands_same : (is : List ℕ) (s : Words) (i : ℕ) → words_at phrase is ≡ Some s → From phrase s i → SameFrom phrase is i
   stands_same [] s i e f k lt = absurd (omega arith)
   stands_same (j ∷ is) s i e f zero lt =
-      let p = parts_at (slice_get phrase j) (words_from phrase is) s e in
+      let p = parts_at (slice_get phrase j) (words_at phrase is) s e in
       let here = word_after phrase i p.0 p.1 (subst (λ t. From phrase t i) p.4 f) in
       subst (λ n. SameAt phrase n j) (let q : i ≡ i + 0 = omega arith in q) (p.0, here.0, p.2)
   stands_same (j ∷ is) s i e f (suc k) lt =
-      let p = parts_at (slice_get phrase j) (words_from phrase is) s e in
+      let p = parts_at (slice_get phrase j) (words_at phrase is) s e in
       let here = word_after phrase i p.0 p.1 (subst (λ t. From phrase t i) p.4 f) in
       subst (λ n. SameAt phrase n (get_or is k 0)) (let q : suc i + k ≡ i + suc k = omega arith in q) (stands_same is p.1 (suc i) p.3 here.1 k (omega arith))
 
   -- the first place from which the phrase has the same words
-  pub first_window : (is : List ℕ) (i : ℕ) → i ≤ length phrase → SameFrom phrase is i → ((j : ℕ) → j < i → SameFrom phrase is j → ⊥) → IsWindowOf phrase (words_from phrase is) (Inside i (length is))
+  pub first_window : (is : List ℕ) (i : ℕ) → i ≤ length phrase → SameFrom phrase is i → ((j : ℕ) → j < i → SameFrom phrase is j → ⊥) → IsWindowOf phrase (words_at phrase is) (Inside i (length is))
   first_window is i le here before =
       let p = same_stands is i le here in
       let least : (j : ℕ) → Occurs phrase p.0 j → i ≤ j = λ j o. ⊎_elim (λ lt. absurd (before j lt (stands_same is p.0 j p.1 (occurs_from phrase p.0 j o)))) (λ ge. ge) (cases_lt j i) in
       subst (λ o. IsWindowOf phrase o (Inside i (length is))) (sym p.1) (from_occurs phrase p.0 i p.2, least, one_word_each phrase is p.0 p.1)
 
-  pub no_window : (is : List ℕ) → ((j : ℕ) → j < length phrase + 1 → SameFrom phrase is j → ⊥) → IsWindowOf phrase (words_from phrase is) Outside
-  no_window is none = by (words_from phrase is) refl
+  pub no_window : (is : List ℕ) → ((j : ℕ) → j < length phrase + 1 → SameFrom phrase is j → ⊥) → IsWindowOf phrase (words_at phrase is) Outside
+  no_window is none = by (words_at phrase is) refl
     where
-      by : (o : Option Words) → words_from phrase is ≡ o → IsWindowOf phrase o Outside
+      by : (o : Option Words) → words_at phrase is ≡ o → IsWindowOf phrase o Outside
       by None e = refl
       by (Some s) e = λ j o. let f = occurs_from phrase s j o in none j (omega (arith, f.2)) (stands_same is s j e f)
 

@@ -11,7 +11,7 @@ use Rattle.grammar.specs.Charts.{Item, Occurs}
 use Rattle.grammar.specs.Languages.{Meaning, Spelling, Words}
 use Rattle.congruence.specs.NodeItems.{IsWindowOf, put_together, sequence_string, symbol_string}
 use Rattle.congruence.proofs.Strings.{occurs_front}
-use Rattle.windows.specs.Strings.{one_word, word_at, words_from}
+use Rattle.windows.specs.Strings.{one_word, word_at, words_at}
 
 pub together_assoc : (a b c : Option Words) → put_together (put_together a b) c ≡ put_together a (put_together b c)
 together_assoc None b c = refl
@@ -46,11 +46,11 @@ sequence_append m phrase items (x ∷ xs) ys =
     ∙ sym (together_assoc (symbol_string m phrase items x) (sequence_string m phrase items xs) (sequence_string m phrase items ys))
 
 -- the words at places, and at one place more
-pub one_place_more : (phrase : Words) (is : List ℕ) (i : ℕ) → words_from phrase (is ++ i ∷ []) ≡ put_together (words_from phrase is) (word_at phrase i)
+pub one_place_more : (phrase : Words) (is : List ℕ) (i : ℕ) → words_at phrase (is ++ i ∷ []) ≡ put_together (words_at phrase is) (word_at phrase i)
 one_place_more phrase [] i = together_empty (word_at phrase i) ∙ sym (empty_together (word_at phrase i))
 one_place_more phrase (j ∷ is) i =
     ap (put_together (word_at phrase j)) (one_place_more phrase is i)
-    ∙ sym (together_assoc (word_at phrase j) (words_from phrase is) (word_at phrase i))
+    ∙ sym (together_assoc (word_at phrase j) (words_at phrase is) (word_at phrase i))
 
 -- the parts of the words at places that are there
 pub parts_at : (o : Option Spelling) (q : Option Words) (s : Words) → put_together (option_map one_word o) q ≡ Some s → (w : Spelling) × (rest : Words) × (o ≡ Some w) × (q ≡ Some rest) × (s ≡ w ∷ rest)
@@ -58,17 +58,17 @@ parts_at None q s e = absurd (none_some s e)
 parts_at (Some w) None s e = absurd (none_some s e)
 parts_at (Some w) (Some rest) s e = (w, rest, refl, refl, let same : s ≡ w ∷ rest = cc in same)
 
-pub one_word_each : (phrase : Words) (is : List ℕ) (s : Words) → words_from phrase is ≡ Some s → length is ≡ length s
+pub one_word_each : (phrase : Words) (is : List ℕ) (s : Words) → words_at phrase is ≡ Some s → length is ≡ length s
 one_word_each phrase [] s e = let same : [] ≡ s = cc in ap length same
 one_word_each phrase (j ∷ is) s e =
-    let p = parts_at (slice_get phrase j) (words_from phrase is) s e in
+    let p = parts_at (slice_get phrase j) (words_at phrase is) s e in
     omega (arith, ap length p.4, one_word_each phrase is p.1 p.3)
 
 -- past as many places as the phrase has words, one more is too many
-pub no_room : (phrase : Words) (is : List ℕ) (i : ℕ) → length phrase ≤ length is → IsWindowOf phrase (put_together (words_from phrase is) (word_at phrase i)) Outside
-no_room phrase is i full = by (words_from phrase is) (slice_get phrase i) refl
+pub no_room : (phrase : Words) (is : List ℕ) (i : ℕ) → length phrase ≤ length is → IsWindowOf phrase (put_together (words_at phrase is) (word_at phrase i)) Outside
+no_room phrase is i full = by (words_at phrase is) (slice_get phrase i) refl
   where
-    by : (o : Option Words) (w : Option Spelling) → words_from phrase is ≡ o → IsWindowOf phrase (put_together o (option_map one_word w)) Outside
+    by : (o : Option Words) (w : Option Spelling) → words_at phrase is ≡ o → IsWindowOf phrase (put_together o (option_map one_word w)) Outside
     by None w e = refl
     by (Some s) None e = refl
     by (Some s) (Some w) e = too_long phrase (s ++ w ∷ []) (omega (arith, one_word_each phrase is s e, length-append s (w ∷ [])))

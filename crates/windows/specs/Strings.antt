@@ -16,15 +16,15 @@ abbrev pub word_at : Words → ℕ → Option Words
 word_at phrase i = option_map one_word (slice_get phrase i)
 
 -- the words at places, from left to right
-abbrev pub words_from : Words → List ℕ → Option Words
-words_from phrase [] = Some []
-words_from phrase (i ∷ is) = put_together (word_at phrase i) (words_from phrase is)
+abbrev pub words_at : Words → List ℕ → Option Words
+words_at phrase [] = Some []
+words_at phrase (i ∷ is) = put_together (word_at phrase i) (words_at phrase is)
 
 abbrev pub places_of : Places → List ℕ
 places_of p = take p.count p.at
 
 abbrev pub string_of : Words → Places → Option Words
-string_of phrase p = words_from phrase (places_of p)
+string_of phrase p = words_at phrase (places_of p)
 
 -- a place is added while there are fewer than n
 abbrev pub Pushed : ℕ → List ℕ → ℕ → Bool → List ℕ → Type 0

@@ -9,7 +9,7 @@ use Rattle.congruence.specs.NodeItems.{IsWindowOf, put_together, sequence_string
 use Rattle.measure.specs.Sums.{or_no_symbols}
 use Rattle.measure.proofs.Asked.{symbol_count, symbol_there}
 use Rattle.phrase.specs.Spelled.{words_of}
-use Rattle.windows.specs.Strings.{string_of, words_from}
+use Rattle.windows.specs.Strings.{string_of, words_at}
 use Rattle.windows.proofs.Symbols.{answered_named, no_symbols, symbol_more, symbol_outside}
 use Rattle.windows.proofs.sequences.sequence_window.Goals as goal
 use Rattle.windows.proofs.sequences.sequence_window.Goals.{in-Some-symbol+else-not-push_symbol, in_default-symbol, in-Some+else-loop-index-test, in_default}
@@ -62,7 +62,7 @@ returns g c items same =
           ∙ ap (sequence_string m phrase items) (take_all w.loop-index.index (or_no_symbols asked) (omega (arith, symbol_count asked w.in-Some.count (sym w.in-Some.ensures))))
       | in_default w ↦
           ap (string_of phrase) w.places-is
-          ∙ ap (words_from phrase) c.new-places.ensures
+          ∙ ap (words_at phrase) c.new-places.ensures
           ∙ ap (sequence_string m phrase items) (sym (no_symbols asked (sym w.in_default.ensures)))
     ] in
     subst (λ o. IsWindowOf phrase o c.find.result) whole c.find.ensures

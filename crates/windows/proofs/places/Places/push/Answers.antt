@@ -2,7 +2,7 @@
 use Rattle.std.proofs.Common.{◌≤◌, length, refl, ap, ◌∙◌, arith}
 use Rattle.std.proofs.lemmas.List.{length-take-le, take_more_set}
 use Rattle.phrase.specs.Spelled.{words_of}
-use Rattle.windows.specs.Strings.{places_of, words_from}
+use Rattle.windows.specs.Strings.{places_of, words_at}
 use Rattle.windows.proofs.Together.{no_room, one_place_more}
 use Rattle.windows.proofs.places.Places.push.Goals as goal
 
@@ -13,7 +13,7 @@ returns-then-self-len c =
     let more = take_more_set p.at p.count c.args.place (omega (arith, p.sized, c.len.ensures.few)) in
     record {
       pushed = (omega (arith, c.len.ensures.count, length-take-le p.count p.at (omega (arith, p.sized, p.within))), more);
-      added = ap (words_from phrase) more ∙ one_place_more phrase (places_of p) c.args.place;
+      added = ap (words_at phrase) more ∙ one_place_more phrase (places_of p) c.args.place;
     }
 
 pub returns-else-self-len : goal.returns-else-self-len

@@ -1,9 +1,12 @@
-// Printing what languages say of a tree.
-use crate::file::load_image;
+// What the languages of the built-in small port say of its trees: in both, in notation, in small letters, and with a function hidden.
+#![tactic(auto)]
+
+use anyhow::anyhow;
 use calls::samples;
 use grammar::language::Language;
 use grammar::signature::SignatureTable;
 use image::language::ImageLanguage;
+use image::load::LoadFault;
 use layers::hiding::Hiding;
 use layers::small_letters::SmallLetters;
 use linearizer::say::say;
@@ -15,7 +18,7 @@ use std::io::Write;
 use tree::code::TreeCode;
 
 // A text with its length; the bytes as they are.
-pub fn print_text(rt: &HostRuntime, name: &str, text: &[u8]) -> io::Result<()> {
+fn print_text(rt: &HostRuntime, name: &str, text: &[u8]) -> io::Result<()> {
     let length = text.len();
     print!(rt; "{name} ({length} bytes): ")?;
     rt.stdout().write_all(text)?;
@@ -32,6 +35,17 @@ fn print_said<L: Language>(
     match text_of(rt.alloc(), tree, language) {
         Ok(text) => print_text(rt, name, text.as_slice()),
         Err(fault) => println!(rt; "{name}: {fault}"),
+    }
+}
+
+// The language of an image, or why there is none.
+fn load_image(rt: &HostRuntime, bytes: &[u8]) -> anyhow::Result<ImageLanguage> {
+    let heap = rt.alloc();
+    let mut language = ImageLanguage::new(heap)?;
+    match language.load(heap, bytes) {
+        Ok(()) => Ok(language),
+        Err(LoadFault::Image(_)) => Err(anyhow!("the image is refused")),
+        Err(LoadFault::Memory) => Err(anyhow!("no memory")),
     }
 }
 
@@ -86,13 +100,12 @@ fn print_code<'a>(
     }
 }
 
-// The trees of the small port.
-pub fn print_trees(rt: &HostRuntime) -> anyhow::Result<()> {
-    let port = load_port(rt)?;
+fn main(rt: HostRuntime) -> anyhow::Result<()> {
+    let port = load_port(&rt)?;
     let signature = samples::small_port();
     println!(rt; "Trees")?;
     for code in samples::TREES {
-        print_code(rt, &port, &signature, code)?;
+        print_code(&rt, &port, &signature, code)?;
     }
     Ok(())
 }

@@ -1,0 +1,7 @@
+// What a helper of a trial expects: where it does not hold, the trial fails with the reason.
+use std::test::Fail;
+
+// The fact holds, or the trial fails and says why.
+pub fn expect(holds: bool, why: &'static str) -> Result<(), Fail> {
+    if holds { Ok(()) } else { Err(Fail::new(why)) }
+}
