@@ -26,6 +26,7 @@ impl SignatureTable {
     }
 
     // The type of the function of that number, if there is one.
+    #[tactic(auto, using(crate::proofs::Listed::listed_length, crate::proofs::Listed::listed_at, std::proofs::lemmas::Option::slice_get_past))]
     pub fn function(&self, number: u8) -> Option<FunctionType>
         ensures { result ≡ slice_get (listed self.now) number }
     {
