@@ -5,8 +5,7 @@
 mod drafts;
 #[cfg(test)]
 mod enumeration;
-#[cfg(test)]
-mod expect;
+pub mod expect;
 #[cfg(test)]
 mod grammars;
 #[cfg(test)]
