@@ -8,7 +8,7 @@ use draft::depth::Depth;
 use draft::walk::read_draft;
 use fault::kinds::{OpenFault, PhraseFault};
 use grammar::signature::SignatureTable;
-use text::reader::PhraseReader;
+use phrase::words::Phrase;
 
 pub mod samples;
 
@@ -16,12 +16,7 @@ pub mod samples;
 fn count_words(phrase: &[u8]) -> Result<usize, PhraseFault>
     ensures { WordCount phrase.now result }
 {
-    let mut reader = PhraseReader::new(phrase);
-    let mut count = 0;
-    while let Some(_word) = reader.next_word()? {
-        count += 1;
-    }
-    Ok(count)
+    Ok(Phrase::read(phrase)?.len())
 }
 
 // How many nodes the draft and how many words the phrase of a sound call has; or the first fault.

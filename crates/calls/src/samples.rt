@@ -44,6 +44,7 @@ pub const TREES: [&[u8]; 4] = [&[0, 1], &[0, 2], &[3, 0, 2], &[0, 1, 1]];
 pub fn small_port() -> SignatureTable
     ensures { signature_of result ≡ written_out }
 {
+    // Four calls prove as they stand; a loop over an array of the types needs an invariant with a case for each of them.
     let mut table = SignatureTable::new(2, 0);
     table.add(FunctionType {
         result: 0,

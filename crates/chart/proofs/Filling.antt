@@ -1,14 +1,11 @@
 -- Filling the table of edges: by one edge, by some and then others, and up to the last place.
-use Rattle.std.proofs.Common.{◌≡◌, ◌+◌, ◌<◌, ◌≤◌, Bool, true, false, leb, List, [], ◌++◌, length, take, sym, ap, ◌∙◌, append_assoc, append-nil, arith}
+use Rattle.std.proofs.Common.{◌≡◌, ℕ, ◌+◌, ◌<◌, ◌≤◌, Bool, true, false, cond, leb, List, [], ◌∷◌, ◌++◌, length, take, is_some, Some, None, Option, sym, ap, ◌∙◌, subst, append_assoc, append-nil, arith}
+use Rattle.std.specs.Option.{SomeIff}
 use lib.Seq.{take-append-le}
-use Rattle.std.proofs.lemmas.List.{length-append, length-take-le, take_all, take_at}
+use Rattle.std.proofs.lemmas.List.{length-append, take_all, take_at}
 use Rattle.std.proofs.lemmas.Bool.{le-leb, leb-false, leb-true, lt-leb}
 use Rattle.chart.specs.declared.edge.Edge.{Edge}
-use Rattle.chart.specs.declared.edge.EdgeTable.{EdgeTable}
-use Rattle.chart.specs.Rows.{Filled, listed}
-
-pub listed_length : (t : EdgeTable) → length (listed t) ≡ t.count
-listed_length t = length-take-le t.count t.edges (omega (arith, t.within, t.sized))
+use Rattle.chart.specs.Rows.{Filled}
 
 -- edges that all have places
 pub filled_whole : (before new after : List Edge) → length before + length new ≤ 4096 → after ≡ before ++ new → Filled before new true after
@@ -26,6 +23,12 @@ filled_full before new full some = record {
   edges = sym (take_at before new 4096 full);
   all = sym (lt-leb (length before + length new) 4096 (omega arith));
 }
+
+-- one edge, which is put at the next place, if there is one
+pub filled_one : (before : List Edge) (e : Edge) (r : Option ℕ) (after : List Edge) → length before ≤ 4096 → SomeIff r (length before < 4096) (length before) → after ≡ cond (is_some r) (before ++ e ∷ []) before → Filled before (e ∷ []) (is_some r) after
+filled_one before e None after few full put =
+    subst (Filled before (e ∷ []) false) (sym put) (filled_full before (e ∷ []) (omega (arith, full)) (omega arith))
+filled_one before e (Some p) after few placed put = filled_whole before (e ∷ []) after (omega (arith, placed.0)) put
 
 -- where all had places, they stand behind those that were there
 pub filled_is : (before new after : List Edge) → Filled before new true after → (after ≡ before ++ new) × (length before + length new ≤ 4096)

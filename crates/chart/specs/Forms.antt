@@ -27,7 +27,7 @@ form_edges m f xs [] ks chains = ruled_edges f chains (m.rule f ks)
 form_edges m f xs (c ∷ cs) ks chains = flat_map (λ k. form_edges m f xs cs (ks ++ k ∷ []) (chains ++ places_of c k 0 xs ∷ [])) (up_to 8)
 
 -- how far the choice of forms is
-pub record FormsSoFar (m : Meaning) (f : ℕ) (categories forms starts : List ℕ) (chosen : ℕ) (index : Index) (xs : List Item) (function : Function) (ks : List ℕ) (chains : List (List ℕ)) : Type 0 where
+pub record FormsSoFar (m : Meaning) (f : ℕ) (categories forms : List ℕ) (starts : List (Option ℕ)) (chosen : ℕ) (index : Index) (xs : List Item) (function : Function) (ks : List ℕ) (chains : List (List ℕ)) : Type 0 where
   pub known : slice_get m.signature.functions f ≡ Some function
   pub count : length ks + length categories ≡ length function.arguments
   pub small : AllByRecursion (λ k. k ≤ 7) ks

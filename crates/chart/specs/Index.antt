@@ -1,5 +1,5 @@
 -- The places of the items of each category and form, chained in rising order.
-use Rattle.std.specs.Prelude.{◌≡◌, ℕ, suc, ◌+◌, ◌*◌, ◌<◌, cond, ◌&&◌, List, [], ◌∷◌, ◌==◌, slice_index}
+use Rattle.std.specs.Prelude.{◌≡◌, ℕ, suc, ◌+◌, ◌*◌, ◌<◌, cond, ◌&&◌, List, [], ◌∷◌, Some, None, Option, ◌==◌, slice_index_or}
 use Rattle.chart.specs.declared.index.Index.{Index}
 use Rattle.chart.specs.declared.item.Item.{Item}
 
@@ -8,22 +8,18 @@ abbrev pub places_of : ℕ → ℕ → ℕ → List Item → List ℕ
 places_of c k i [] = []
 places_of c k i (x ∷ xs) = cond (x.category == c && x.form == k) (i ∷ places_of c k (suc i) xs) (places_of c k (suc i) xs)
 
--- what follows the last place of a chain
-abbrev pub end_of_chain : ℕ
-end_of_chain = 512
-
--- from a place on, each place's follower is the next of the list, and the last one's is the end
-abbrev pub Chain : List ℕ → ℕ → List ℕ → Type 0
-Chain next p [] = p ≡ end_of_chain
-Chain next p (q ∷ qs) = (p ≡ q) × Chain next (slice_index next q) qs
+-- from a place on, each place's follower is the next of the list, and the last one has none
+abbrev pub Chain : List (Option ℕ) → Option ℕ → List ℕ → Type 0
+Chain next p [] = p ≡ None
+Chain next p (q ∷ qs) = (p ≡ Some q) × Chain next (slice_index_or next q None) qs
 
 -- a category below 16 and a form below 8
 abbrev pub InBounds : Item → Type 0
 InBounds x = (x.category < 16) × (x.form < 8)
 
 -- where the chain of a category and a form begins
-abbrev pub head_of : Index → ℕ → ℕ → ℕ
-head_of index c k = slice_index index.heads (8 * c + k)
+abbrev pub head_of : Index → ℕ → ℕ → Option ℕ
+head_of index c k = slice_index_or index.heads (8 * c + k) None
 
 -- the chains are those of the items
 abbrev pub Indexed : List Item → ℕ → Index → Type 0

@@ -1,13 +1,14 @@
 -- The items that a table holds, each at its place.
-use Rattle.std.specs.Prelude.{◌≡◌, ℕ, ◌⊎◌, List, [], ◌∷◌, ◌++◌, length, take, Some, None, Option}
+use Rattle.std.specs.Prelude.{◌≡◌, ℕ, ◌⊎◌, List, [], ◌∷◌, ◌++◌, length, Some, None, Option}
 use Rattle.std.specs.List.{slice_get}
+use Rattle.tables.specs.Held.{held as all_held}
 use Rattle.grammar.specs.Lists.{Holds}
 use Rattle.chart.specs.declared.item.Item.{Item}
 use Rattle.chart.specs.declared.table.ItemTable.{ItemTable}
 
 -- the items in use, by their places
 abbrev pub held : ItemTable → List Item
-held t = take t.count t.items
+held t = all_held t.items
 
 -- how many places a chart has for items
 abbrev pub item_places : ℕ

@@ -1,13 +1,14 @@
 -- Edges as a table lists them: a function with the places of its arguments' items.
-use Rattle.std.specs.Prelude.{◌≡◌, ℕ, suc, ◌+◌, ◌<◌, Bool, List, [], ◌∷◌, ◌++◌, map, length, take, nat_le, slice_set}
+use Rattle.std.specs.Prelude.{◌≡◌, ℕ, suc, ◌+◌, ◌<◌, Bool, List, [], ◌∷◌, ◌++◌, map, length, take, Option, nat_le, slice_set}
 use Rattle.std.specs.List.{flat_map, AllByRecursion}
+use Rattle.tables.specs.Held.{held}
 use Rattle.chart.specs.declared.edge.Edge.{Edge}
 use Rattle.chart.specs.declared.edge.EdgeTable.{EdgeTable}
 use Rattle.chart.specs.Index.{Chain}
 
 -- the edges in use
 abbrev pub listed : EdgeTable → List Edge
-listed t = take t.count t.edges
+listed t = held t.edges
 
 -- how many places a chart has for edges
 abbrev pub edge_places : ℕ
@@ -37,7 +38,7 @@ Rises [] = Unit {0}
 Rises (q ∷ qs) = AllByRecursion (λ r. q < r) qs × Rises qs
 
 -- chains from each of the starts, of places that rise below 512
-abbrev pub Chains : List ℕ → List ℕ → List (List ℕ) → Type 0
+abbrev pub Chains : List (Option ℕ) → List (Option ℕ) → List (List ℕ) → Type 0
 Chains next [] [] = Unit {0}
 Chains next [] (qs ∷ chains) = ⊥
 Chains next (p ∷ starts) [] = ⊥

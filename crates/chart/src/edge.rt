@@ -1,22 +1,23 @@
 // Edges as plain values of fixed size, and their table.
-ghost use Rattle.std.specs.Prelude.{◌≡◌, ◌≤◌, length};
+use tables::Table;
 
 mod forms;
 mod listing;
 
 // A function with the place of an item for each of its arguments, 0 for one that is not there, and the place of the item that it makes of them.
-#[derive(Clone, Copy)]
+// The places stand in an array, as the forms of a rule's key do; 0 is what the definitions say of an argument that is not there.
+#[derive(Clone, Copy, Debug, PartialEq, Eq)]
 pub struct Edge {
     pub function: u8,
     pub arguments: [usize; 3],
     pub result: usize,
 }
 
-// The first `count` of 4,096 places hold edges, and the places past them are free.
+// How many places a chart has for edges.
+pub const EDGES: usize = 4096;
+
+// The edges in the order in which they were found.
 #[derive(Clone, Copy)]
 pub struct EdgeTable {
-    edges: [Edge; 4096],
-    count: usize,
-    ghost sized: { length edges ≡ 4096 },
-    ghost within: { count ≤ 4096 },
+    edges: Table<Edge, EDGES>,
 }

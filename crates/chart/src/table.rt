@@ -1,15 +1,14 @@
 // The places of a chart's items.
-ghost use Rattle.std.specs.Prelude.{◌≡◌, ◌≤◌, length};
-
 use crate::item::Item;
+use tables::Table;
 
 mod places;
 
-// The first `count` of 512 places hold items, in the order in which they were found, and the places past them are free.
+// How many places a chart has for items.
+pub const ITEMS: usize = 512;
+
+// The items in the order in which they were found.
 #[derive(Clone, Copy)]
 pub struct ItemTable {
-    items: [Item; 512],
-    count: usize,
-    ghost sized: { length items ≡ 512 },
-    ghost within: { count ≤ 512 },
+    items: Table<Item, ITEMS>,
 }

@@ -1,54 +1,28 @@
--- The loops that end at the first number, byte or difference that decides.
-use Rattle.std.proofs.Common.{◌≡◌, ℕ, zero, suc, ◌+◌, ◌-◌, ◌<◌, ◌≤◌, Bool, true, false, ◌&&◌, ltb, ◌⊎◌, List, [], ◌∷◌, length, get_or, drop, sym, refl, ap, ◌∙◌, ⊎_elim, add-one, arith}
-use Rattle.std.proofs.lemmas.List.{at_drop_more, at_drop_all}
-use Rattle.std.proofs.lemmas.Bool.{and_from, and_left, and_right, cases_lt}
-use Rattle.std.proofs.lemmas.Bool.Decides.{nat_tests}
+-- What the library's `all` and `<` say, in the words of the format.
+use Rattle.std.proofs.Common.{◌≡◌, ℕ, zero, suc, ◌+◌, ◌-◌, Bool, true, false, ◌&&◌, List, [], ◌∷◌, ◌++◌, sym, refl, ap, ◌∙◌, arith}
+use Rattle.std.specs.List.{list_all, range_with_len}
+use Rattle.std.proofs.lemmas.List.{map-id}
+use Rattle.std.proofs.lemmas.List.Folds.{list_all-append}
+use Rattle.std.proofs.lemmas.List.FromFn.{map-range_with_len_more}
 use Rattle.grammar.specs.PhraseWalk.{permitted}
 use Rattle.view.specs.Grammar.{key}
 use Rattle.demands.specs.Check.{all_permitted, every, key_rises, rises}
 
--- what holds of each number so far, and of this one, holds of each below the next
-pub every_more : (p : ℕ → Bool) (i : ℕ) → every i p ≡ true → true ≡ p i → every (i + 1) p ≡ true
-every_more p i before here = rw (add-one i) (and_from _ _ before (sym here))
+pub permitted_all : (bytes : List ℕ) → list_all permitted bytes ≡ all_permitted bytes
+permitted_all [] = refl
+permitted_all (b ∷ bytes) = ap (λ rest. permitted b && rest) (permitted_all bytes)
 
-pub every_stops : (p : ℕ → Bool) (i n : ℕ) → i < n → false ≡ p i → false ≡ every n p
-every_stops p i zero inside here = absurd (omega arith)
-every_stops p i (suc n) inside here =
-    ⊎_elim
-    (λ below. sym (and_left _ (p n) (sym (every_stops p i n below here))))
-    (λ last. let same : n ≡ i = omega arith in sym (and_right (every n p) (p n) (ap p same ∙ sym here)))
-    (cases_lt i n)
+and_true : (b : Bool) → (b && true) ≡ b
+and_true true = refl
+and_true false = refl
 
-pub every_all : (p : ℕ → Bool) (i n : ℕ) → every i p ≡ true → i ≡ n → true ≡ every n p
-every_all p i n before end = sym before ∙ ap (λ m. every m p) end
-
--- the bytes before place i are permitted, so those from there on decide
-module _ (b : List ℕ) (i : ℕ) (before : all_permitted (drop i b) ≡ all_permitted b) where
-  split : i < length b → all_permitted b ≡ (permitted (get_or b i 0) && all_permitted (drop (i + 1) b))
-  split inside = sym before ∙ at_drop_more all_permitted b i 0 inside
-
-  pub permitted_more : i < length b → true ≡ permitted (get_or b i 0) → all_permitted (drop (i + 1) b) ≡ all_permitted b
-  permitted_more inside here = ap (λ k. k && all_permitted (drop (i + 1) b)) here ∙ sym (split inside)
-
-  pub permitted_stops : i < length b → false ≡ permitted (get_or b i 0) → false ≡ all_permitted b
-  permitted_stops inside here = sym (split inside ∙ and_left _ _ (sym here))
-
-  pub permitted_all : length b ≤ i → true ≡ all_permitted b
-  permitted_all end = sym (at_drop_all all_permitted b i end) ∙ before
-
--- what is left of two keys: it begins with a difference, or with the same number, or nothing is left of one
-module _ {x y : ℕ} {xs ys before after : List ℕ} (low : before ≡ x ∷ xs) (high : after ≡ y ∷ ys) where
-  pub rises_apart : (x ≡ y → ⊥) → ltb x y ≡ rises before after
-  rises_apart apart = rw (low, high) (grind (arith, nat_tests))
-
-  pub rises_alike : x ≡ y → rises xs ys ≡ rises before after
-  rises_alike alike = rw (low, high) (grind (arith, nat_tests))
-
-pub rises_none : (before after : List ℕ) → (before ≡ []) ⊎ (after ≡ []) → false ≡ rises before after
-rises_none [] after none = refl
-rises_none (x ∷ xs) [] none = refl
-rises_none (x ∷ xs) (y ∷ ys) none =
-    absurd (⊎_elim (λ e. let z : ◌≡◌ {A = ℕ} 0 1 = cc in omega arith) (λ e. let z : ◌≡◌ {A = ℕ} 0 1 = cc in omega arith) none)
+pub every_all : (p : ℕ → Bool) (n : ℕ) → list_all p (range_with_len 0 n) ≡ every n p
+every_all p zero = refl
+every_all p (suc n) =
+    let next : suc n ≡ n + 1 = omega arith in
+    let more = sym (map-id (range_with_len 0 (n + 1))) ∙ map-range_with_len_more (λ k. k) 0 n n (omega arith) ∙ ap (λ ks. ks ++ n ∷ []) (map-id (range_with_len 0 n)) in
+    ap (λ m. list_all p (range_with_len 0 m)) next ∙ ap (list_all p) more ∙ list_all-append p (range_with_len 0 n) (n ∷ [])
+    ∙ ap (λ b. b && (p n && true)) (every_all p n) ∙ ap (λ b. every n p && b) (and_true (p n))
 
 -- the first rule has none before it, a later one is compared with the rule before it
 pub key_after : (b : List ℕ) (r : ℕ) {before after : List ℕ} → (r ≡ 0 → ⊥) → before ≡ key b (r - 1) → after ≡ key b r → rises before after ≡ key_rises b r

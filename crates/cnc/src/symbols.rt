@@ -19,19 +19,21 @@ fn is_symbol_sound(view: &ImageView, function: u8, bits: u16) -> bool
     if bits < REFERENCES {
         return bits < view.words();
     }
+    // The bits are taken apart without making a symbol: those that are not sound are none.
     let argument = (bits - REFERENCES) / 4;
     let constituent = (bits - REFERENCES) % 4;
-    argument < view.arity(function) as u16
-        && constituent < view.dimension(view.argument(function, argument)) as u16
+    argument < u16::from(view.arity(function))
+        && constituent < u16::from(view.dimension(view.argument(function, argument)))
 }
 
 fn check_symbol(view: &ImageView, rule: u16, constituent: u8, place: u8) -> Result<(), ImageFault>
     ensures { told result ≡ first_broken (symbol_demands (image view.now) rule constituent place) }
 {
-    let symbol = view.first_symbol(rule, constituent) as u32 + place as u32;
+    let symbol = u32::from(view.first_symbol(rule, constituent)) + u32::from(place);
     ensure(
         is_symbol_sound(view, view.rule_function(rule), view.symbol_bits(symbol)),
         ImageFault::Symbol {
+            // `as`, since std has no From<u32> for usize.
             symbol: symbol as usize,
         },
     )
@@ -40,26 +42,26 @@ fn check_symbol(view: &ImageView, rule: u16, constituent: u8, place: u8) -> Resu
 fn check_constituent(view: &ImageView, rule: u16, constituent: u8) -> Result<(), ImageFault>
     ensures { told result ≡ first_broken (each (symbol_count (image view.now) rule constituent) (symbol_demands (image view.now) rule constituent)) }
 {
-    for place in 0..view.symbol_count(rule, constituent) {
-        check_symbol(view, rule, constituent, place)?;
-    }
-    Ok(())
+    (0..view.symbol_count(rule, constituent)).try_for_each(|place| check_symbol(
+        view,
+        rule,
+        constituent,
+        place,
+    ))
 }
 
 fn check_uses(view: &ImageView, rule: u16) -> Result<(), ImageFault>
     ensures { told result ≡ first_broken (use_demands (image view.now) rule) }
 {
-    for constituent in 0..view.rule_dimension(rule) {
-        check_constituent(view, rule, constituent)?;
-    }
-    Ok(())
+    (0..view.rule_dimension(rule)).try_for_each(|constituent| check_constituent(
+        view,
+        rule,
+        constituent,
+    ))
 }
 
 pub(crate) fn check_symbols(view: &ImageView) -> Result<(), ImageFault>
     ensures { told result ≡ first_broken (each (rules (image view.now)) (use_demands (image view.now))) }
 {
-    for rule in 0..view.rules() {
-        check_uses(view, rule)?;
-    }
-    Ok(())
+    (0..view.rules()).try_for_each(|rule| check_uses(view, rule))
 }

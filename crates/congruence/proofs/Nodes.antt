@@ -2,7 +2,6 @@
 use Rattle.std.proofs.Common.{◌≡◌, ℕ, List, [], ◌∷◌, map, Some, None, Option, sym, refl, ap, ◌∙◌, subst}
 use Rattle.std.specs.List.{slice_get}
 use Rattle.grammar.specs.declared.symbol.Window.{Window}
-use Rattle.grammar.specs.declared.symbol.Window.TheVariants.{Outside}
 use Rattle.grammar.specs.Charts.{AreWindows, Item, ItemOf, item_category, item_form}
 use Rattle.grammar.specs.Languages.{Meaning, Rule, Words}
 use Rattle.grammar.specs.Linearization.{Said, apply_rule, by_rule, linearized_all, said_form, said_more, said_node}
@@ -94,11 +93,11 @@ item_follows_from_argument_items m phrase f signed ts items i known categories a
     (node_made m phrase f ts items i all, made_node m phrase f signed ts items i known categories all)
 
 -- strings that may be outside have one window each
-window_of_is_unique : (phrase : Words) (o : Option Words) (w v : Window) → IsWindowOf phrase o w → IsWindowOf phrase o v → w ≡ v
+window_of_is_unique : (phrase : Words) (o : Option Words) (w v : Option Window) → IsWindowOf phrase o w → IsWindowOf phrase o v → w ≡ v
 window_of_is_unique phrase None w v p q = p ∙ sym q
 window_of_is_unique phrase (Some s) w v p q = window_is_unique phrase s w v p q
 
-windows_of_are_unique : (phrase : Words) (os : List (Option Words)) (ws vs : List Window) → AreWindowsOf phrase os ws → AreWindowsOf phrase os vs → ws ≡ vs
+windows_of_are_unique : (phrase : Words) (os : List (Option Words)) (ws vs : List (Option Window)) → AreWindowsOf phrase os ws → AreWindowsOf phrase os vs → ws ≡ vs
 windows_of_are_unique phrase [] [] [] p q = refl
 windows_of_are_unique phrase [] [] (v ∷ vs) p q = absurd q
 windows_of_are_unique phrase [] (w ∷ ws) vs p q = absurd p
@@ -117,11 +116,11 @@ made_is_unique m phrase f items i j p q =
     λ x. record { category = category x; form = form x; windows = windows x }
 
 -- each string that may be outside has a window
-window_of_exists : (phrase : Words) (o : Option Words) → (w : Window) × IsWindowOf phrase o w
-window_of_exists phrase None = (Outside, refl)
+window_of_exists : (phrase : Words) (o : Option Words) → (w : Option Window) × IsWindowOf phrase o w
+window_of_exists phrase None = (None, refl)
 window_of_exists phrase (Some s) = (window s phrase, window_is s phrase)
 
-windows_of_exist : (phrase : Words) (os : List (Option Words)) → (ws : List Window) × AreWindowsOf phrase os ws
+windows_of_exist : (phrase : Words) (os : List (Option Words)) → (ws : List (Option Window)) × AreWindowsOf phrase os ws
 windows_of_exist phrase [] = ([], tt)
 windows_of_exist phrase (o ∷ os) =
     let first = window_of_exists phrase o in

@@ -5,7 +5,6 @@ use Rattle.std.proofs.lemmas.List.{take_at, drop_at}
 use Rattle.grammar.specs.declared.symbol.Symbol.{Symbol}
 use Rattle.grammar.specs.declared.symbol.Symbol.TheVariants.{Word, Reference}
 use Rattle.grammar.specs.declared.symbol.Window.{Window}
-use Rattle.grammar.specs.declared.symbol.Window.TheVariants.{Inside, Outside}
 use Rattle.grammar.specs.Charts.{AreWindows, IsWindow, Item, Occurs}
 use Rattle.grammar.specs.Languages.{Meaning, Words}
 use Rattle.grammar.specs.Linearization.{Said, nothing_said, symbol_words}
@@ -30,9 +29,9 @@ abbrev pub StandsFor : Words → Option Words → Words → Type 0
 StandsFor phrase None s = (j : ℕ) → Occurs phrase s j → ⊥
 StandsFor phrase (Some t) s = t ≡ s
 
-window_stands : (phrase s : Words) (w : Window) → IsWindow phrase s w → StandsFor phrase (window_string phrase w) s
-window_stands phrase s (Inside i n) p = ap (λ k. take k (drop i phrase)) p.2 ∙ occurs_part phrase s i p.0
-window_stands phrase s Outside p = p
+window_stands : (phrase s : Words) (w : Option Window) → IsWindow phrase s w → StandsFor phrase (window_string phrase w) s
+window_stands phrase s None p = p
+window_stands phrase s (Some w) p = ap (λ k. take k (drop w.start phrase)) p.2 ∙ occurs_part phrase s w.start p.0
 
 together_stands : (phrase : Words) (o p : Option Words) (s t : Words) → StandsFor phrase o s → StandsFor phrase p t → StandsFor phrase (put_together o p) (s ++ t)
 together_stands phrase None p s t h k = λ j at. h j (occurs_front phrase s t j at)
@@ -40,16 +39,16 @@ together_stands phrase (Some x) None s t h k = λ j at. k (j + length s) (occurs
 together_stands phrase (Some x) (Some y) s t h k = λ i. h i ++ k i
 
 -- the window of a string is that of what stands for it
-stands_window : (phrase : Words) (o : Option Words) (s : Words) (w : Window) → StandsFor phrase o s → IsWindow phrase s w ↔ IsWindowOf phrase o w
-stands_window phrase None s (Inside i n) h = (λ p. absurd (h i p.0), λ e. let z : ◌≡◌ {A = ℕ} 0 1 = cc in absurd (omega arith))
-stands_window phrase None s Outside h = (λ p. refl, λ e. h)
+stands_window : (phrase : Words) (o : Option Words) (s : Words) (w : Option Window) → StandsFor phrase o s → IsWindow phrase s w ↔ IsWindowOf phrase o w
+stands_window phrase None s (Some w) h = (λ p. absurd (h w.start p.0), λ e. let z : ◌≡◌ {A = ℕ} 0 1 = cc in absurd (omega arith))
+stands_window phrase None s None h = (λ p. refl, λ e. h)
 stands_window phrase (Some t) s w h = (subst (λ x. IsWindow phrase x w) (sym h), subst (λ x. IsWindow phrase x w) h)
 
 empty_is : (phrase : Words) → IsWindow phrase [] empty_window
 empty_is phrase = (([], phrase, refl, refl), λ j o. omega arith, refl)
 
 -- the window of constituent k; one that is missing is empty
-window_at : (phrase : Words) (ss : List Words) (ws : List Window) (k : ℕ) → AreWindows phrase ss ws → IsWindow phrase (get_or ss k []) (get_or ws k empty_window)
+window_at : (phrase : Words) (ss : List Words) (ws : List (Option Window)) (k : ℕ) → AreWindows phrase ss ws → IsWindow phrase (get_or ss k []) (get_or ws k empty_window)
 window_at phrase [] [] k p = empty_is phrase
 window_at phrase [] (w ∷ ws) k p = absurd p
 window_at phrase (s ∷ ss) [] k p = absurd p
@@ -86,7 +85,7 @@ module _ (m : Meaning) (phrase : Words) (all : List Said) (items : List Item) (s
       together_stands phrase (symbol_string m phrase items x) (sequence_string m phrase items xs) (symbol_words m all x) (flat_map (symbol_words m all) xs) (symbol_stands x) (sequence_stands xs)
 
   -- the windows of what is said by a rule are those of its sequences' strings
-  pub sequence_windows : (xss : List (List Symbol)) (ws : List Window) → AreWindows phrase (map (flat_map (symbol_words m all)) xss) ws ↔ AreWindowsOf phrase (map (sequence_string m phrase items) xss) ws
+  pub sequence_windows : (xss : List (List Symbol)) (ws : List (Option Window)) → AreWindows phrase (map (flat_map (symbol_words m all)) xss) ws ↔ AreWindowsOf phrase (map (sequence_string m phrase items) xss) ws
   sequence_windows [] [] = (λ p. p, λ p. p)
   sequence_windows [] (w ∷ ws) = (λ p. p, λ p. p)
   sequence_windows (xs ∷ xss) [] = (λ p. p, λ p. p)

@@ -4,21 +4,20 @@ use Rattle.std.specs.List.{slice_get}
 use Rattle.grammar.specs.declared.symbol.Symbol.{Symbol}
 use Rattle.grammar.specs.declared.symbol.Symbol.TheVariants.{Word, Reference}
 use Rattle.grammar.specs.declared.symbol.Window.{Window}
-use Rattle.grammar.specs.declared.symbol.Window.TheVariants.{Inside, Outside}
 use Rattle.grammar.specs.Charts.{IsWindow, Item, ItemOf, item_form}
 use Rattle.grammar.specs.Languages.{Meaning, Rule, Words}
 use Rattle.grammar.specs.Signatures.{Function}
 use Rattle.grammar.specs.Trees.{Trees}
 use Rattle.grammar.specs.Trees.Trees.{none, more}
 
--- the string that a window stands for: that part of the phrase
-abbrev pub window_string : Words → Window → Option Words
-window_string phrase (Inside i n) = Some (take n (drop i phrase))
-window_string phrase Outside = None
+-- the string that a window stands for: that part of the phrase; outside, there is none
+abbrev pub window_string : Words → Option Window → Option Words
+window_string phrase None = None
+window_string phrase (Some w) = Some (take w.length (drop w.start phrase))
 
 -- the window of the empty string
-abbrev pub empty_window : Window
-empty_window = Inside 0 0
+abbrev pub empty_window : Option Window
+empty_window = Some (record { start = 0; length = 0 })
 
 abbrev pub nothing_shown : Item
 nothing_shown = record { category = 0; form = 0; windows = [] }
@@ -39,11 +38,11 @@ sequence_string m phrase items [] = Some []
 sequence_string m phrase items (x ∷ xs) = put_together (symbol_string m phrase items x) (sequence_string m phrase items xs)
 
 -- the window of a string that may be outside already
-abbrev pub IsWindowOf : Words → Option Words → Window → Type 0
-IsWindowOf phrase None w = w ≡ Outside
+abbrev pub IsWindowOf : Words → Option Words → Option Window → Type 0
+IsWindowOf phrase None w = w ≡ None
 IsWindowOf phrase (Some s) w = IsWindow phrase s w
 
-abbrev pub AreWindowsOf : Words → List (Option Words) → List Window → Type 0
+abbrev pub AreWindowsOf : Words → List (Option Words) → List (Option Window) → Type 0
 AreWindowsOf phrase [] [] = Unit {0}
 AreWindowsOf phrase [] (w ∷ ws) = ⊥
 AreWindowsOf phrase (s ∷ ss) [] = ⊥

@@ -1,12 +1,18 @@
 -- What a list of demands answers: by its parts, and by the turns of a loop that checks them in order.
-use Rattle.std.proofs.Common.{◌≡◌, ℕ, zero, suc, ◌+◌, ◌<◌, true, false, cond, List, [], ◌∷◌, ◌++◌, IsErrAnd, Some, None, Option, Result, sym, ap, ◌∙◌, subst, ⊎_elim, arith}
-use Rattle.std.specs.List.{range_with_len, flat_map}
-use Rattle.std.proofs.lemmas.List.FromFn.{map-range_with_len_more}
-use Rattle.std.proofs.lemmas.List.{flat_map_more, map-id}
+use denote.Param.Members.{Mut}
+use Rattle.std.proofs.Common.{◌≡◌, ℕ, true, false, cond, List, [], ◌∷◌, ◌++◌, IsErr, IsErrAnd, Some, None, Option, MatchOption, Result, sym, refl, ap, ◌∙◌, subst, arith}
+use Rattle.std.specs.Fn.{Called}
+use Rattle.std.specs.Iterator.{AlwaysYields, TryCallsOnEach, TryForEachTurn, Yields}
+use Rattle.std.specs.List.{flat_map, range_with_len, FoldsTo}
+use Rattle.std.specs.Result.{result_from_control_flow}
+use Rattle.std.specs.declared.ops.Range.{Range}
+use Rattle.std.specs.declared.ops.ControlFlow.{ControlFlow}
+use Rattle.std.specs.declared.ops.ControlFlow.TheVariants.{Continue, Break}
+use Rattle.std.proofs.iter.Yields.{nat_range_steps}
+use Rattle.std.proofs.lemmas.Iterator.{YieldsList-from_range}
 use Rattle.std.proofs.lemmas.Result.{err_from_is_err_and}
-use Rattle.std.proofs.lemmas.Bool.{cases_lt}
 use Rattle.flaw.specs.declared.kinds.ImageFault.{ImageFault}
-use Rattle.demands.specs.Check.{Demand, first_broken, each}
+use Rattle.demands.specs.Check.{Demand, each, first_broken}
 use Rattle.demands.specs.Told.{told}
 
 -- the exit of a `?` hands on the fault
@@ -31,25 +37,33 @@ stops (x ∷ xs) ys {f} broken =
       | false ↦ λ here. here
     ] broken
 
--- what is demanded of one number more comes last
-each_more : (d : ℕ → List Demand) (i : ℕ) → each (i + 1) d ≡ each i d ++ d i
-each_more d i =
-    let more : range_with_len 0 (i + 1) ≡ range_with_len 0 i ++ i ∷ [] = sym (map-id _) ∙ map-range_with_len_more (λ k. k) 0 i i (omega arith) ∙ ap (λ ks. ks ++ i ∷ []) (map-id _) in
-    ap (flat_map d) more ∙ sym (flat_map_more d [] (range_with_len 0 i) i)
+-- a check that is tried on each item of a chain answers for the first that breaks a demand
+module _ {S A F E : Type 0} (steps : S → Option A → S → Type 0) (v : A → ℕ) (g : Mut F (A × Unit {0}) (Result (Unit {0}) ImageFault)) (branches : Result (Unit {0}) ImageFault → ControlFlow E (Unit {0}) → Type 0) (resumes : E → Result (Unit {0}) ImageFault → Type 0)
+    (goes : (w : Result (Unit {0}) ImageFault) → branches w (Continue tt) → None ≡ told w) (breaks : (w r : Result (Unit {0}) ImageFault) (e : E) → branches w (Break e) → resumes e r → (f : ImageFault) × (Some f ≡ told w) × (told r ≡ Some f))
+    (d : ℕ → List Demand) (f : F) (says : (x : A) (w : Result (Unit {0}) ImageFault) (q : F) → Called g f (x, tt) w q → (q ≡ f) × (told w ≡ first_broken (d (v x)))) where
+  walk : (xs : List A) (all : List ℕ) (s t u : S) (j : F) (o : Option A) (r : Result (Unit {0}) ImageFault) → AlwaysYields steps v s all → Yields steps s xs t → FoldsTo (TryForEachTurn g branches) f xs j → steps t o u
+      → MatchOption o (branches r (Continue tt)) (λ x. (w : Result (Unit {0}) ImageFault) × (h : F) × (e : E) × Called g j (x, tt) w h × branches w (Break e) × resumes e r)
+      → told r ≡ first_broken (flat_map d all)
+  walk [] [] s t u j None r e y c p m = sym (goes r m)
+  walk [] [] s t u j (Some x) r e y c p m = absurd (e x u (subst (λ k. steps k (Some x) u) (sym y) p))
+  walk [] (z ∷ all) s t u j None r e y c p m = absurd (e.0 u (subst (λ k. steps k None u) (sym y) p))
+  walk [] (z ∷ all) s t u j (Some x) r e y c p m =
+      let said = says x m.0 m.1 (subst (λ k. Called g k (x, tt) m.0 m.1) (sym c) m.3) in
+      let broken = breaks m.0 r m.2 m.4 m.5 in
+      let here = broken.1 ∙ said.1 ∙ ap (λ n. first_broken (d n)) (e.1 x u (subst (λ k. steps k (Some x) u) (sym y) p)).0 in
+      broken.2 ∙ stops (d z) (flat_map d all) here
+  walk (x ∷ xs) [] s t u j o r e y c p m = absurd (e x y.0 y.1)
+  walk (x ∷ xs) (z ∷ all) s t u j o r e y c p m =
+      let next = e.1 x y.0 y.1 in
+      let said = says x c.1.0 c.0 c.1.1 in
+      let kept = goes c.1.0 c.1.2 ∙ said.1 ∙ ap (λ n. first_broken (d n)) next.0 in
+      passes (d z) (flat_map d all) kept (walk xs all y.0 t u j o r next.1 y.2 (subst (λ k. FoldsTo (TryForEachTurn g branches) k xs j) said.0 c.2) p m)
 
-module _ (d : ℕ → List Demand) (i : ℕ) (before : None ≡ first_broken (each i d)) where
-  here_decides : {o : Option ImageFault} → o ≡ first_broken (d i) → o ≡ first_broken (each (i + 1) d)
-  here_decides here = rw (each_more d i) (passes (each i d) (d i) before here)
-
-  pub each_passes : None ≡ first_broken (d i) → None ≡ first_broken (each (i + 1) d)
-  each_passes here = here_decides here
-
-  pub each_stops : {f : ImageFault} (n : ℕ) → i < n → Some f ≡ first_broken (d i) → Some f ≡ first_broken (each n d)
-  each_stops {f} zero inside here = absurd (omega arith)
-  each_stops {f} (suc n) inside here =
-      let at : ℕ → Type 0 = λ m. Some f ≡ first_broken (each m d) in
-      let next : n + 1 ≡ suc n = omega arith in
-      ⊎_elim
-      (λ below. let later : at (n + 1) = rw (each_more d n) (stops (each n d) (d n) (each_stops n below here)) in subst at next later)
-      (λ last. let same : i + 1 ≡ suc n = omega arith in subst at same (here_decides here))
-      (cases_lt i n)
+-- the same of the numbers from 0 on, in the words of `try_for_each`
+pub tried : {F : Type 0} {g : Mut F (ℕ × Unit {0}) (Result (Unit {0}) ImageFault)} (d : ℕ → List Demand) (n : ℕ) {f : F} {s u : Range ℕ} {r : Result (Unit {0}) ImageFault}
+    → ((x : ℕ) (w : Result (Unit {0}) ImageFault) (q : F) → Called g f (x, tt) w q → (q ≡ f) × (told w ≡ first_broken (d x)))
+    → s ≡ record { start = 0; end = n }
+    → TryCallsOnEach nat_range_steps g (λ w c. w ≡ result_from_control_flow c) (λ e r. IsErr r × IsErrAnd r (λ x. x ≡ e.0)) s f r u → told r ≡ first_broken (each n d)
+tried {g = g} d n {f} {s} {u} {r} says from ran =
+    let gives = YieldsList-from_range 0 n n from (omega arith) in
+    walk nat_range_steps (λ x. x) g (λ w c. w ≡ result_from_control_flow c) (λ e r. IsErr r × IsErrAnd r (λ x. x ≡ e.0)) (λ w same. sym (ap told same)) (λ w r e same exit. (e.0, sym (ap told same), handed_on r exit.1 refl)) d f says ran.0 (range_with_len 0 n) s ran.3.0 u ran.2 ran.1 r gives.runs ran.3.1 ran.4 ran.3.2 ran.5

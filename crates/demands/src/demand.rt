@@ -15,5 +15,5 @@ pub fn ensure(kept: bool, fault: ImageFault) -> Result<(), ImageFault>
 pub fn is_within(low: u8, high: u8, number: u8) -> bool
     ensures { result ≡ within low high number }
 {
-    low <= number && number <= high
+    (low..=high).contains(&number)
 }

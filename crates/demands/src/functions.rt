@@ -15,7 +15,7 @@ fn check_dimension(view: &ImageView, category: u8) -> Result<(), ImageFault>
     ensure(
         is_within(1, 4, view.dimension(category)),
         ImageFault::Field {
-            byte: 16 + category as usize,
+            byte: 16 + usize::from(category),
         },
     )
 }
@@ -23,10 +23,7 @@ fn check_dimension(view: &ImageView, category: u8) -> Result<(), ImageFault>
 pub fn check_dimensions(view: &ImageView) -> Result<(), ImageFault>
     ensures { told result ≡ first_broken (each (categories (image view.now)) (dimension_demands (image view.now))) }
 {
-    for category in 0..view.categories() {
-        check_dimension(view, category)?;
-    }
-    Ok(())
+    (0..view.categories()).try_for_each(|category| check_dimension(view, category))
 }
 
 // An argument that the function has is a category, one that it has not is 0.
@@ -34,7 +31,7 @@ fn check_argument(view: &ImageView, function: u8, argument: u16) -> Result<(), I
     ensures { told result ≡ first_broken (argument_demand (image view.now) function argument ∷ []) }
 {
     let category = view.argument(function, argument);
-    let kept = if argument < view.arity(function) as u16 {
+    let kept = if argument < u16::from(view.arity(function)) {
         category < view.categories()
     } else {
         category == 0
@@ -42,7 +39,7 @@ fn check_argument(view: &ImageView, function: u8, argument: u16) -> Result<(), I
     ensure(
         kept,
         ImageFault::Field {
-            byte: view.function_at(function) + 2 + argument as usize,
+            byte: view.function_at(function) + 2 + usize::from(argument),
         },
     )
 }
@@ -59,16 +56,11 @@ fn check_function(view: &ImageView, function: u8) -> Result<(), ImageFault>
         view.arity(function) <= 3,
         ImageFault::Field { byte: at + 1 },
     )?;
-    check_argument(view, function, 0)?;
-    check_argument(view, function, 1)?;
-    check_argument(view, function, 2)
+    (0..3).try_for_each(|argument| check_argument(view, function, argument))
 }
 
 pub fn check_functions(view: &ImageView) -> Result<(), ImageFault>
     ensures { told result ≡ first_broken (each (functions (image view.now)) (function_demands (image view.now))) }
 {
-    for function in 0..view.functions() {
-        check_function(view, function)?;
-    }
-    Ok(())
+    (0..view.functions()).try_for_each(|function| check_function(view, function))
 }

@@ -1,5 +1,5 @@
 -- The steps of the walk: what the model reads at each kind of byte, what that lists, and how many nodes there can be.
-use Rattle.std.proofs.Common.{◌≡◌, ℕ, zero, suc, ◌+◌, ◌-◌, ◌*◌, ◌≤◌, List, [], ◌∷◌, ◌++◌, map, length, get_or, take, drop, Some, None, Ok, Err, Option, Result, sym, refl, ap, ◌∙◌, subst, mul-le-mul_right, suc-mul, arith, Bor}
+use Rattle.std.proofs.Common.{◌≡◌, ℕ, zero, suc, ◌+◌, ◌-◌, ◌*◌, ◌≤◌, List, [], ◌∷◌, ◌++◌, length, get_or, take, drop, Some, None, Ok, Err, Option, Result, sym, refl, ap, ◌∙◌, subst, mul-le-mul_right, suc-mul, arith, Bor}
 use Rattle.std.specs.List.{slice_get}
 use Rattle.std.specs.Option.{option_map}
 use Rattle.std.proofs.lemmas.List.{append-nil, append_assoc, drop_more, length_push, take_rest}
@@ -18,8 +18,8 @@ use Rattle.grammar.specs.DraftWalk.Root.{open_place, function, wrong}
 use Rattle.grammar.specs.Questions.{argument_list}
 use Rattle.grammar.specs.Signatures.{Function, Signature}
 use Rattle.grammar.specs.Tables.{typed, listed, signature_of}
-use Rattle.draft.specs.declared.nodes.DraftByte.TheVariants.{Hole, Function as Of}
 use Rattle.draft.specs.declared.nodes.DraftNode.{DraftNode}
+use Rattle.grammar.proofs.Nth.{nth_map}
 use Rattle.draft.specs.Nodes.{argument_categories, placed, draft_nodes, drafts_nodes}
 use Rattle.draft.specs.Walks.{most, Took, Met, WalkedOne, WalkedAll}
 
@@ -76,11 +76,6 @@ root_none s c b no_hole e = rw (ne_eqb b hole_byte no_hole, e)
 pub root_other : (s : Signature) (c b : ℕ) (f : Function) → (b ≡ hole_byte → ⊥) → slice_get s.functions b ≡ Some f → (f.result ≡ c → ⊥) → root s c b ≡ wrong
 root_other s c b f no_hole e r = rw (ne_eqb b hole_byte no_hole, e, ne_eqb f.result c r)
 
-nth_map : {A B : Type 0} (f : A → B) (xs : List A) (i : ℕ) → slice_get (map f xs) i ≡ option_map f (slice_get xs i)
-nth_map f [] i = refl
-nth_map f (x ∷ xs) zero = refl
-nth_map f (x ∷ xs) (suc i) = nth_map f xs i
-
 -- the table's function of a number is the signature's
 pub in_table : (t : SignatureTable) (b : ℕ) (o : Option FunctionType) → o ≡ slice_get (listed t) b → slice_get (signature_of t).functions b ≡ option_map typed o
 in_table t b o e = nth_map typed (listed t) b ∙ ap (option_map typed) (sym e)
@@ -89,7 +84,7 @@ pub one_more : (before after : List DraftNode) (n : DraftNode) → after ≡ bef
 one_more before after n put = let more = length_push before n in let same = ap length put in omega arith
 
 -- a hole is a node of its own
-pub one_hole : (s : Signature) (left c : ℕ) {b : ℕ} {bytes rest : List ℕ} {before after : List DraftNode} → 1 ≤ left → bytes ≡ b ∷ rest → b ≡ hole_byte → after ≡ before ++ placed Hole c left ∷ [] → Took (read_draft s left c (length before) bytes) (draft_nodes s left c) (most left) before after rest
+pub one_hole : (s : Signature) (left c : ℕ) {b : ℕ} {bytes rest : List ℕ} {before after : List DraftNode} → 1 ≤ left → bytes ≡ b ∷ rest → b ≡ hole_byte → after ≡ before ++ placed None c left ∷ [] → Took (read_draft s left c (length before) bytes) (draft_nodes s left c) (most left) before after rest
 one_hole s left c {b} {bytes} {rest} {before} {after} deep e is_hole put =
     let long = one_more before after _ put in
     record {
@@ -110,7 +105,7 @@ one_wrong s left c {b} {p} {bytes} {rest} {before} deep e is here =
     }
 
 -- a function is a node, and then come its arguments
-pub one_built : (s : Signature) (left c : ℕ) (f : Function) (bytes : List ℕ) (before after : List DraftNode) (r : Result (Bor (List ℕ)) TreeFault) {b : ℕ} {rest : List ℕ} {middle : List DraftNode} → 1 ≤ left → bytes ≡ b ∷ rest → root s c b ≡ function f → slice_get s.functions b ≡ Some f → length f.arguments ≤ 3 → middle ≡ before ++ placed (Of b) c left ∷ [] → WalkedAll s (left - 1) f.arguments rest middle after r → WalkedOne s left c bytes before after r
+pub one_built : (s : Signature) (left c : ℕ) (f : Function) (bytes : List ℕ) (before after : List DraftNode) (r : Result (Bor (List ℕ)) TreeFault) {b : ℕ} {rest : List ℕ} {middle : List DraftNode} → 1 ≤ left → bytes ≡ b ∷ rest → root s c b ≡ function f → slice_get s.functions b ≡ Some f → length f.arguments ≤ 3 → middle ≡ before ++ placed (Some b) c left ∷ [] → WalkedAll s (left - 1) f.arguments rest middle after r → WalkedOne s left c bytes before after r
 one_built s left c f bytes before after (Ok last) {b} {rest} {middle} deep e is at_b three put below =
     let long = one_more before middle _ put in
     record {
@@ -120,7 +115,7 @@ one_built s left c f bytes before after (Ok last) {b} {rest} {middle} deep e is 
           below.listed
           ∙ ap (λ l. l ++ drafts_nodes s (left - 1) f.arguments below.value) put
           ∙ append_assoc before _ _
-          ∙ ap (λ o. before ++ placed (Of b) c left ∷ drafts_nodes s (left - 1) (argument_categories o) below.value) (sym at_b);
+          ∙ ap (λ o. before ++ placed (Some b) c left ∷ drafts_nodes s (left - 1) (argument_categories o) below.value) (sym at_b);
       few = omega (arith, most_step left deep, mul-le-mul_right (most (left - 1)) three);
     }
 one_built s left c f bytes before after (Err fault) {b} {rest} {middle} deep e is at_b three put below =
@@ -128,7 +123,7 @@ one_built s left c f bytes before after (Err fault) {b} {rest} {middle} deep e i
     record {
       read = rw e (at_fault_below s left c (length before) b rest f fault deep is (rw (← long) below.read));
       place = below.place;
-      more = placed (Of b) c left ∷ below.more;
+      more = placed (Some b) c left ∷ below.more;
       kept = below.kept ∙ ap (λ l. l ++ below.more) put ∙ append_assoc before _ _;
     }
 

@@ -17,7 +17,7 @@ impl Depth {
     pub fn new(depth: u8) -> Result<Depth, TreeFault>
         ensures { elim result [ Ok d ↦ depth_check depth ≡ Ok d.value | Err fault ↦ depth_check depth ≡ Err fault ] }
     {
-        if 1 <= depth && depth <= 6 {
+        if (1..=6).contains(&depth) {
             Ok(Depth { value: depth })
         } else {
             Err(TreeFault::DepthOutOfRange)

@@ -6,12 +6,12 @@ ghost use Rattle.draft.specs.Nodes.{held};
 ghost use Rattle.draft.specs.Walks.{WalkedAll, WalkedOne, WalkedWhole, most};
 
 use crate::depth::Depth;
-use crate::nodes::{DraftByte, DraftNode, DraftNodes};
+use crate::nodes::{DraftNode, DraftNodes};
 use fault::kinds::TreeFault;
 use grammar::signature::{Arguments, SignatureTable};
 
 // The byte that stands for a hole.
-const HOLE: u8 = 255;
+pub const HOLE: u8 = 255;
 
 // The nodes of the draft that the code stands for: one of the signature's start category, no deeper than the depth.
 pub fn read_draft(
@@ -31,7 +31,7 @@ pub fn read_draft(
 impl DraftNodes {
     // Reads a draft of the category off the front of the code, and answers the rest. As each byte read has become a
     // node, the number of nodes is the place of the next byte.
-    #[cycle(read_all_read_one)]
+    #[cycle(walk)]
     fn read_one<'a>(
         &mut self,
         signature: &SignatureTable,
@@ -50,7 +50,7 @@ impl DraftNodes {
         }
         if *root == HOLE {
             self.push(DraftNode {
-                byte: DraftByte::Hole,
+                function: None,
                 category,
                 left,
             });
@@ -59,7 +59,7 @@ impl DraftNodes {
         match signature.function(*root) {
             Some(function) if function.result == category => {
                 self.push(DraftNode {
-                    byte: DraftByte::Function(*root),
+                    function: Some(*root),
                     category,
                     left,
                 });
@@ -70,7 +70,7 @@ impl DraftNodes {
     }
 
     // Reads a draft for each of the arguments, one after the other, and answers the rest.
-    #[cycle(read_all_read_one)]
+    #[cycle(walk)]
     fn read_all<'a>(
         &mut self,
         signature: &SignatureTable,
@@ -81,6 +81,7 @@ impl DraftNodes {
         requires { length (held self.old) + length (argument_list arguments) * most left ≤ 364 }
         ensures { WalkedAll (signature_of signature.now) left (argument_list arguments) code.now (held self.old) (held self.new) result }
     {
+        // An arm for each case: a loop over the categories would need them as a list.
         match arguments {
             Arguments::Zero => Ok(code),
             Arguments::One(a) => self.read_one(signature, a, left, code),

@@ -1,21 +1,10 @@
 // What each fault says: its number, layer and place, and a reason in words.
-ghost use Rattle.std.specs.Prelude.{◌≡◌};
 ghost use Rattle.fault.specs.Reasons.{tree_reason, phrase_reason, chart_reason, open_reason, say_reason};
 ghost use Rattle.fault.specs.Refusals.{tree_refusal, phrase_refusal, chart_refusal, open_refusal, say_refusal};
 
 use crate::kinds::{ChartFault, OpenFault, PhraseFault, SayFault, TreeFault};
 use refusals::kinds::{Layer, Refusal};
 use refusals::refusal::Fault;
-
-fn refuse(number: u8, layer: Layer, place: usize) -> Refusal
-    ensures { result ≡ record { number = number; layer = layer; place = place } }
-{
-    Refusal {
-        number,
-        layer,
-        place,
-    }
-}
 
 impl Fault for TreeFault {
     ghost says = { tree_refusal };
@@ -24,12 +13,12 @@ impl Fault for TreeFault {
 
     fn refusal(&self) -> Refusal {
         match self {
-            TreeFault::DepthOutOfRange => refuse(7, Layer::Tree, 0),
-            TreeFault::OtherSignature => refuse(8, Layer::Tree, 0),
-            TreeFault::EndsEarly { length } => refuse(9, Layer::Tree, *length),
-            TreeFault::LeftOver { byte } => refuse(9, Layer::Tree, *byte),
-            TreeFault::WrongNode { byte } => refuse(10, Layer::Tree, *byte),
-            TreeFault::TooDeep { byte } => refuse(11, Layer::Tree, *byte),
+            TreeFault::DepthOutOfRange => Refusal::new(7, Layer::Tree, 0),
+            TreeFault::OtherSignature => Refusal::new(8, Layer::Tree, 0),
+            TreeFault::EndsEarly { length } => Refusal::new(9, Layer::Tree, *length),
+            TreeFault::LeftOver { byte } => Refusal::new(9, Layer::Tree, *byte),
+            TreeFault::WrongNode { byte } => Refusal::new(10, Layer::Tree, *byte),
+            TreeFault::TooDeep { byte } => Refusal::new(11, Layer::Tree, *byte),
         }
     }
 
@@ -53,10 +42,10 @@ impl Fault for PhraseFault {
 
     fn refusal(&self) -> Refusal {
         match self {
-            PhraseFault::WrongByte { byte } => refuse(12, Layer::Phrase, *byte),
-            PhraseFault::LongWord { byte } => refuse(13, Layer::Phrase, *byte),
-            PhraseFault::TooManyWords { byte } => refuse(13, Layer::Phrase, *byte),
-            PhraseFault::UnknownWord { word } => refuse(14, Layer::Phrase, *word),
+            PhraseFault::WrongByte { byte } => Refusal::new(12, Layer::Phrase, *byte),
+            PhraseFault::LongWord { byte } => Refusal::new(13, Layer::Phrase, *byte),
+            PhraseFault::TooManyWords { byte } => Refusal::new(13, Layer::Phrase, *byte),
+            PhraseFault::UnknownWord { word } => Refusal::new(14, Layer::Phrase, *word),
         }
     }
 
@@ -78,8 +67,8 @@ impl Fault for ChartFault {
 
     fn refusal(&self) -> Refusal {
         match self {
-            ChartFault::TooLarge => refuse(15, Layer::Chart, 0),
-            ChartFault::Unread => refuse(16, Layer::Chart, 0),
+            ChartFault::TooLarge => Refusal::new(15, Layer::Chart, 0),
+            ChartFault::Unread => Refusal::new(16, Layer::Chart, 0),
         }
     }
 
@@ -120,9 +109,9 @@ impl Fault for SayFault {
 
     fn refusal(&self) -> Refusal {
         match self {
-            SayFault::OtherSignature => refuse(8, Layer::Tree, 0),
-            SayFault::Mute { node } => refuse(20, Layer::Session, *node),
-            SayFault::NoRoom { length } => refuse(21, Layer::Session, *length),
+            SayFault::OtherSignature => Refusal::new(8, Layer::Tree, 0),
+            SayFault::Mute { node } => Refusal::new(20, Layer::Session, *node),
+            SayFault::NoRoom { length } => Refusal::new(21, Layer::Session, *length),
         }
     }
 

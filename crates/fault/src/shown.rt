@@ -8,6 +8,7 @@ use crate::kinds::{ChartFault, OpenFault, PhraseFault, SayFault, TreeFault};
 use refusals::shown::write_line;
 use std::fmt;
 
+// One impl a type, by hand: no crate may write std's trait for a type parameter, so one impl for all faults cannot be had.
 impl fmt::Display for TreeFault {
     ghost output = { λ x. Some (line (tree_refusal x) (tree_reason x)) };
 

@@ -4,6 +4,7 @@ ghost use Rattle.fault.specs.declared.kinds.OpenFault.TheVariants.{InTree, InPhr
 
 use crate::kinds::{ChartFault, OpenFault, PhraseFault, TreeFault};
 
+// By hand: a contract has to know which case `?` makes of a fault.
 impl From<TreeFault> for OpenFault {
     ghost from_gives = { λ x r. r ≡ InTree x };
 

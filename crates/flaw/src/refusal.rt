@@ -12,11 +12,7 @@ use refusals::refusal::Fault;
 fn refuse_image(number: u8, place: usize) -> Refusal
     ensures { result ≡ refuse number Image place }
 {
-    Refusal {
-        number,
-        layer: Layer::Image,
-        place,
-    }
+    Refusal::new(number, Layer::Image, place)
 }
 
 impl Fault for ImageFault {

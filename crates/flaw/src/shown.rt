@@ -8,6 +8,7 @@ use crate::kinds::ImageFault;
 use refusals::shown::write_line;
 use std::fmt;
 
+// By hand, as in crate fault: no crate may write std's trait for a type parameter.
 impl fmt::Display for ImageFault {
     ghost output = { λ x. Some (line (image_refusal x) (image_reason x)) };
 

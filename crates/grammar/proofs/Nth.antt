@@ -1,10 +1,11 @@
 -- The element at a place of a list, also of one that is made of others.
-use Rattle.std.proofs.Common.{◌≡◌, ℕ, zero, suc, ◌-◌, ◌<◌, ◌≤◌, List, [], ◌∷◌, ◌++◌, map, length, drop, replicate, Some, None, sym, refl, ap, ◌∙◌, subst, arith}
+use Rattle.std.proofs.Common.{◌≡◌, ℕ, zero, suc, ◌-◌, ◌<◌, ◌≤◌, List, [], ◌∷◌, ◌++◌, map, length, drop, replicate, Some, None, sym, refl, ap, ◌∙◌, subst, inl, inr, ⊎_elim, arith}
 use Rattle.std.specs.List.{slice_get, range_with_len, AllByRecursion}
 use Rattle.std.specs.Option.{option_map}
 use Rattle.std.proofs.lemmas.List.FromFn.{length-map-range_with_len, get_or-map-range_with_len}
 use Rattle.std.proofs.lemmas.List.{get_or-replicate, length-replicate}
 use Rattle.std.proofs.lemmas.Option.{slice_get-get_or, slice_get_past}
+use Rattle.grammar.specs.Lists.{Holds}
 use Rattle.grammar.proofs.Optional.{none_some}
 
 pub nth_map : {X Y : Type 0} (f : X → Y) (xs : List X) (i : ℕ) → slice_get (map f xs) i ≡ option_map f (slice_get xs i)
@@ -58,3 +59,14 @@ pub nth_missing : {X : Type 0} (xs : List X) (i : ℕ) → i < length xs → sli
 nth_missing [] i lt h = omega arith
 nth_missing (x ∷ xs) zero lt h = none_some x (sym h)
 nth_missing (x ∷ xs) (suc i) lt h = nth_missing xs i (omega arith) h
+
+-- a list holds what stands at a place of it, and nothing else
+pub nth_holds : {X : Type 0} (xs : List X) (i : ℕ) (x : X) → slice_get xs i ≡ Some x → Holds xs x
+nth_holds [] i x h = absurd (none_some x h)
+nth_holds (y ∷ ys) zero x h = inl (cc)
+nth_holds (y ∷ ys) (suc i) x h = inr (nth_holds ys i x h)
+
+pub holds_nth : {X : Type 0} (xs : List X) (x : X) → Holds xs x → (i : ℕ) × (slice_get xs i ≡ Some x)
+holds_nth [] x h = absurd h
+holds_nth (y ∷ ys) x h =
+    ⊎_elim (λ e. (0, ap Some (sym e))) (λ later. let p = holds_nth ys x later in (suc p.0, p.1)) h

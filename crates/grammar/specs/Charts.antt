@@ -1,8 +1,7 @@
 -- Windows, items and edges: what a phrase makes of all trees of a language up to a depth.
-use Rattle.std.specs.Prelude.{◌≡◌, ℕ, ◌-◌, ◌≤◌, List, [], ◌∷◌, ◌++◌, map, length, Some}
+use Rattle.std.specs.Prelude.{◌≡◌, ℕ, ◌-◌, ◌≤◌, List, [], ◌∷◌, ◌++◌, map, length, Some, None, Option}
 use Rattle.std.specs.List.{slice_get, AllByRecursion}
 use Rattle.grammar.specs.declared.symbol.Window.{Window}
-use Rattle.grammar.specs.declared.symbol.Window.TheVariants.{Inside, Outside}
 use Rattle.grammar.specs.Languages.{Meaning, Rule, Words}
 use Rattle.grammar.specs.Linearization.{Said, linearized}
 use Rattle.grammar.specs.Lists.{Counted}
@@ -14,11 +13,12 @@ abbrev pub Occurs : Words → Words → ℕ → Type 0
 Occurs phrase string i = (front : Words) × (back : Words) × (phrase ≡ front ++ (string ++ back)) × (length front ≡ i)
 
 -- the window of a string is the start and the length of its leftmost occurrence; a string that does not occur is outside
-abbrev pub IsWindow : Words → Words → Window → Type 0
-IsWindow phrase string (Inside i n) = Occurs phrase string i × ((j : ℕ) → Occurs phrase string j → i ≤ j) × (n ≡ length string)
-IsWindow phrase string Outside = (j : ℕ) → Occurs phrase string j → ⊥
+abbrev pub IsWindow : Words → Words → Option Window → Type 0
+IsWindow phrase string (Some w) =
+    Occurs phrase string w.start × ((j : ℕ) → Occurs phrase string j → w.start ≤ j) × (w.length ≡ length string)
+IsWindow phrase string None = (j : ℕ) → Occurs phrase string j → ⊥
 
-abbrev pub AreWindows : Words → List Words → List Window → Type 0
+abbrev pub AreWindows : Words → List Words → List (Option Window) → Type 0
 AreWindows phrase [] [] = Unit {0}
 AreWindows phrase [] (w ∷ ws) = ⊥
 AreWindows phrase (s ∷ ss) [] = ⊥
@@ -28,7 +28,7 @@ AreWindows phrase (s ∷ ss) (w ∷ ws) = IsWindow phrase s w × AreWindows phra
 pub record Item : Type 0 where
   pub category : ℕ
   pub form : ℕ
-  pub windows : List Window
+  pub windows : List (Option Window)
 
 -- the item of a linearizable tree
 pub record ItemOf (m : Meaning) (phrase : Words) (t : Tree) (i : Item) : Type 0 where

@@ -6,7 +6,7 @@ ghost use Rattle.grammar.specs.Languages.{Meaning, Lawful};
 ghost use Rattle.grammar.specs.Questions.{argument_list, result_answer, arguments_answer, word_length_answer, word_byte_answer, rule_answer, sequence_length_answer, symbol_answer};
 
 use crate::signature::Arguments;
-use crate::symbol::{RuleForm, Symbol};
+use crate::symbol::{RuleForm, RuleKey, Symbol};
 
 // A question only reads, and by the meaning it always has the same answer. One outside its range, on a sequence of a missing rule, or with a form
 // other than 0 for an argument that is not there is answered with `None`, and no other is: that a rule is missing is an answer.
@@ -43,17 +43,17 @@ pub trait Language {
     fn word_byte(&self, word: u16, index: u8) -> Option<u8>
         ensures { result ≡ word_byte_answer (meaning self.now) word index };
 
-    // The result form of the rule for a function and its arguments' forms, or that there is none.
-    fn rule(&self, function: u8, forms: [u8; 3]) -> Option<RuleForm>
-        ensures { result ≡ rule_answer (meaning self.now) function forms };
+    // The result form of the rule that the key names, or that there is none.
+    fn rule(&self, key: RuleKey) -> Option<RuleForm>
+        ensures { result ≡ rule_answer (meaning self.now) key.function key.forms };
 
     // How many symbols a rule has for a constituent.
-    fn sequence_length(&self, function: u8, forms: [u8; 3], constituent: u8) -> Option<u8>
-        ensures { result ≡ sequence_length_answer (meaning self.now) function forms constituent };
+    fn sequence_length(&self, key: RuleKey, constituent: u8) -> Option<u8>
+        ensures { result ≡ sequence_length_answer (meaning self.now) key.function key.forms constituent };
 
     // One of those symbols.
-    fn symbol(&self, function: u8, forms: [u8; 3], constituent: u8, index: u8) -> Option<Symbol>
-        ensures { result ≡ symbol_answer (meaning self.now) function forms constituent index };
+    fn symbol(&self, key: RuleKey, constituent: u8, index: u8) -> Option<Symbol>
+        ensures { result ≡ symbol_answer (meaning self.now) key.function key.forms constituent index };
 
     ghost lawful: { (l : Self) → Lawful (meaning l) };
 }

@@ -1,9 +1,9 @@
 // Signatures as plain values of fixed size: what a panel holds of its port's categories and functions.
-ghost use Rattle.std.specs.Prelude.{◌≡◌, ◌≤◌, length};
-
 mod asking;
 mod making;
 mod taking;
+
+use tables::Table;
 
 // The most functions that a signature has.
 pub const FUNCTIONS: usize = 64;
@@ -25,12 +25,9 @@ pub struct FunctionType {
 }
 
 // A signature as a table: how many categories, which is the start category, and the type of each function by its number.
-#[derive(Clone, Copy)]
+#[derive(Clone, Copy, PartialEq, Eq)]
 pub struct SignatureTable {
     categories: u8,
     start: u8,
-    functions: [FunctionType; 64],
-    count: usize,
-    ghost sized: { length functions ≡ 64 },
-    ghost within: { count ≤ 64 },
+    functions: Table<FunctionType, FUNCTIONS>,
 }

@@ -1,7 +1,7 @@
 -- What a rule that is looked up by its key is, for a question in range.
 use Rattle.std.proofs.Common.{◌≡◌, ℕ, ◌<◌, true, false, List, [], ◌∷◌, length, get_or, is_some, Some, None, sym, ap, ◌∙◌}
-use Rattle.demands.specs.Check.{image_check}
-use Rattle.view.specs.Layout.{functions, arity}
+use Rattle.demands.specs.Check.{image_check, key_rises}
+use Rattle.view.specs.Layout.{functions, arity, rules}
 use Rattle.grammar.proofs.Optional.{some_value, no_value}
 use Rattle.grammar.specs.Questions.{forms_of}
 use Rattle.image.specs.Lookups.{HasKey, LookedUp}
@@ -13,6 +13,9 @@ use Rattle.soundness.proofs.Sound.{Sound, sound}
 
 pub sound_bytes : (b : List ℕ) → is_some (image_check b) ≡ false → Sound b
 sound_bytes b e = sound b (no_value (image_check b) e)
+
+pub keys_rise : (b : List ℕ) → is_some (image_check b) ≡ false → (r : ℕ) → r < rules b → key_rises b r ≡ true
+keys_rise b e r lt = ((sound_bytes b e).rule_sound r lt).rising
 
 module _ (b : List ℕ) (s : Sound b) (f : ℕ) (lt : f < functions b) (forms : List ℕ) (long : length forms ≡ 3) where
   -- a question that is in range, with its three forms written out
@@ -31,7 +34,3 @@ module _ (b : List ℕ) (s : Sound b) (f : ℕ) (lt : f < functions b) (forms : 
 
   pub out_of_range : is_some (forms_of (arity b f) forms) ≡ false → LookedUp b f forms OutOfRange
   out_of_range absent = asked_known b f lt forms ∙ no_value (forms_of (arity b f) forms) absent
-
--- the bytes that a view shows are sound where those that it is made over are
-pub sound_view : (shown b : List ℕ) → shown ≡ b → is_some (image_check b) ≡ false → Sound shown
-sound_view shown b same e = sound_bytes shown (ap (λ x. is_some (image_check x)) same ∙ e)

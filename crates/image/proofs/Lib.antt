@@ -1,3 +1,3 @@
-pub mod Narrowing
+pub mod Search
 pub mod Answered
 pub mod Told

@@ -1,17 +1,20 @@
 -- What each question is told out of the fields of a sound image.
-use Rattle.std.proofs.Common.{◌≡◌, ℕ, ◌+◌, ◌-◌, ◌/◌, ◌%◌, ◌<◌, ◌≤◌, Bool, true, false, cond, ◌&&◌, ltb, List, length, get_or, drop, Some, None, sym, refl, ap, ◌∙◌, arith}
+use denote.Ref.{Bor}
+use Rattle.std.proofs.Common.{◌≡◌, ℕ, ◌+◌, ◌-◌, ◌/◌, ◌%◌, ◌<◌, ◌≤◌, Bool, true, false, cond, ◌&&◌, ltb, List, length, get_or, is_some, IfSome, Some, None, Option, sym, refl, ap, ◌∙◌, subst, arith}
 use Rattle.std.specs.List.{slice_get}
-use Rattle.std.specs.Option.{option_map}
-use Rattle.std.proofs.lemmas.List.{get_or-take, get_or-drop}
+use Rattle.std.specs.Bool.{then_some}
+use Rattle.std.specs.Option.{option_copied, option_map}
 use Rattle.std.proofs.lemmas.Option.{slice_get-get_or, slice_get_past}
-use Rattle.std.proofs.lemmas.Bool.{ltb-true, and_parts}
+use Rattle.std.proofs.lemmas.Bool.{ltb-true, ltb-false, and_parts}
 use Rattle.view.specs.Grammar.{listing, image_function, image_meaning, sequence, symbol_of}
-use Rattle.view.specs.Layout.{byte, categories, functions, words, spelled_from, dimension, result, arity, argument, word_offset, word_length, spelling, rule_function, first_symbol, symbol_count, rule_dimension, symbol_bits}
-use Rattle.grammar.specs.Questions.{at, rule_at, sequence_at, function_result, result_answer, word_length_answer, word_byte_answer, sequence_answer, sequence_length_answer, symbol_answer}
-use Rattle.image.specs.Lookups.{LookedUp}
-use Rattle.image.specs.declared.lookup.Lookup.TheVariants.{Entry}
-use Rattle.soundness.proofs.Asking.{listing_past}
-use Rattle.soundness.proofs.Lawfulness.{word_long, symbols_inside}
+use Rattle.view.specs.Layout.{functions, words, dimension, arity, argument, spelling, rule_function, first_symbol, symbol_count, rule_dimension, symbol_bits}
+use Rattle.grammar.proofs.Optional.{none_some}
+use Rattle.grammar.specs.Questions.{arguments_answer, at, rule_at, sequence_at, word_byte_answer, sequence_answer, sequence_length_answer, symbol_answer}
+use Rattle.image.specs.Lookups.{LookedUp, entry_of}
+use Rattle.image.specs.declared.lookup.Lookup.{Lookup}
+use Rattle.image.specs.declared.lookup.Lookup.TheVariants.{OutOfRange, Missing, Entry}
+use Rattle.soundness.proofs.Asking.{arguments_known, listing_past}
+use Rattle.soundness.proofs.Lawfulness.{symbols_inside}
 use Rattle.soundness.proofs.Listings.{listing_length, listing_nth}
 use Rattle.soundness.proofs.Sound.{Sound}
 
@@ -32,51 +35,51 @@ module _ (b : List ℕ) where
   pub words_told : words b ≡ length (image_meaning b).words
   words_told = sym (listing_length (spelling b) (words b))
 
-  pub result_told : (f : ℕ) → f < functions b → Some (result b f) ≡ result_answer (image_meaning b) f
-  result_told f lt = sym (ap (option_map function_result) (listing_nth (image_function b) (functions b) f lt))
+-- a copy of what `get` reads
+pub copied_item : (xs : List ℕ) (i : ℕ) (o : Option (Bor ℕ)) → is_some o ≡ ltb i (length xs) → IfSome o (λ x. x.now ≡ get_or xs i x.now) → option_copied o ≡ slice_get xs i
+copied_item xs i None there read = sym (slice_get_past xs i (ltb-false i (length xs) (sym there)))
+copied_item xs i (Some x) there read = ap Some read ∙ sym (slice_get-get_or xs i x.now (ltb-true i (length xs) (sym there)))
 
-  pub result_none : (f : ℕ) → functions b ≤ f → None ≡ result_answer (image_meaning b) f
-  result_none f past = sym (ap (option_map function_result) (listing_past (image_function b) (functions b) f past))
+-- what is told of a number below n, where it is h of f at it, is what is asked of a list of n
+pub told_below : {A B : Type 0} (n i : ℕ) (f : ℕ → A) (h : A → B) (x : B) → (i < n → x ≡ h (f i)) → then_some (ltb i n) x ≡ option_map h (slice_get (listing n f) i)
+told_below n i f h x says = by (ltb i n) refl
+  where
+    by : (b : Bool) → ltb i n ≡ b → then_some b x ≡ option_map h (slice_get (listing n f) i)
+    by true e = let lt = ltb-true i n e in ap Some (says lt) ∙ sym (ap (option_map h) (listing_nth f n i lt))
+    by false e = sym (ap (option_map h) (listing_past f n i (ltb-false i n e)))
 
-  pub dimension_told : (c : ℕ) → c < categories b → Some (dimension b c) ≡ slice_get (image_meaning b).dimensions c
-  dimension_told c lt = sym (listing_nth (dimension b) (categories b) c lt)
+-- a function's arguments, as many as its arity
+pub arguments_told : (b : List ℕ) (f : ℕ) → f < functions b → (n : ℕ) → n ≡ arity b f → Some (listing n (argument b f)) ≡ arguments_answer (image_meaning b) f
+arguments_told b f lt n few = ap (λ n. Some (listing n (argument b f))) few ∙ sym (arguments_known b f lt)
 
-  pub dimension_none : (c : ℕ) → categories b ≤ c → None ≡ slice_get (image_meaning b).dimensions c
-  dimension_none c past = sym (listing_past (dimension b) (categories b) c past)
-
-  pub word_none : (w : ℕ) → words b ≤ w → None ≡ word_length_answer (image_meaning b) w
-  word_none w past = sym (ap (option_map length) (listing_past (spelling b) (words b) w past))
-
+module _ (b : List ℕ) where
   pub word_byte_none : (w i : ℕ) → words b ≤ w → None ≡ word_byte_answer (image_meaning b) w i
   word_byte_none w i past = sym (ap (λ o. at o i) (listing_past (spelling b) (words b) w past))
 
+  pub word_byte_told : (w i : ℕ) → w < words b → slice_get (spelling b w) i ≡ word_byte_answer (image_meaning b) w i
+  word_byte_told w i lt = sym (ap (λ o. at o i) (listing_nth (spelling b) (words b) w lt))
+
+  -- a rule that has no entry has no sequences
+  pub no_entry : (f : ℕ) (forms : List ℕ) (l : Lookup) → LookedUp b f forms l → None ≡ entry_of l → (k : ℕ) → None ≡ sequence_answer (image_meaning b) f forms k
+  no_entry f forms OutOfRange found e k = sym (ap (λ o. sequence_at (rule_at (image_meaning b) f o) k) found)
+  no_entry f forms Missing found e k = sym (ap (λ o. sequence_at (rule_at (image_meaning b) f o) k) found.1 ∙ ap (λ o. sequence_at (Some o) k) found.2)
+  no_entry f forms (Entry i) found e k = absurd (none_some i e)
+
+  pub its_entry : (f : ℕ) (forms : List ℕ) (l : Lookup) → LookedUp b f forms l → (i : ℕ) → Some i ≡ entry_of l → LookedUp b f forms (Entry i)
+  its_entry f forms OutOfRange found i e = absurd (none_some i (sym e))
+  its_entry f forms Missing found i e = absurd (none_some i (sym e))
+  its_entry f forms (Entry j) found i e = let same : j ≡ i = cc in subst (λ k. LookedUp b f forms (Entry k)) same found
+
 module _ (b : List ℕ) (s : Sound b) where
-  pub word_told : (w : ℕ) → w < words b → Some (word_length b w) ≡ word_length_answer (image_meaning b) w
-  word_told w lt = ap Some (sym (word_long b s w lt)) ∙ sym (ap (option_map length) (listing_nth (spelling b) (words b) w lt))
-
-  word_bytes : (w i : ℕ) → w < words b → word_byte_answer (image_meaning b) w i ≡ slice_get (spelling b w) i
-  word_bytes w i lt = ap (λ o. at o i) (listing_nth (spelling b) (words b) w lt)
-
-  pub word_byte_past : (w i : ℕ) → w < words b → word_length b w ≤ i → None ≡ word_byte_answer (image_meaning b) w i
-  word_byte_past w i lt past = sym (word_bytes w i lt ∙ slice_get_past (spelling b w) i (omega (arith, word_long b s w lt)))
-
-  pub word_byte_told : (w i : ℕ) → w < words b → i < word_length b w → Some (byte b (spelled_from b + word_offset b w + i)) ≡ word_byte_answer (image_meaning b) w i
-  word_byte_told w i lt il =
-      let from = spelled_from b + word_offset b w in
-      let read : get_or (spelling b w) i 0 ≡ byte b (from + i) = get_or-take (word_length b w) (drop from b) i 0 il ∙ get_or-drop from b i 0 in
-      sym (word_bytes w i lt ∙ slice_get-get_or (spelling b w) i 0 (omega (arith, word_long b s w lt)) ∙ ap Some read)
-
   -- a question on a rule that has an entry
   module _ (f : ℕ) (forms : List ℕ) (i : ℕ) (found : LookedUp b f forms (Entry i)) where
     sequences : (k : ℕ) → sequence_answer (image_meaning b) f forms k ≡ slice_get (listing (rule_dimension b i) (sequence b i)) k
     sequences k = ap (λ o. sequence_at (rule_at (image_meaning b) f o) k) found.1 ∙ ap (λ o. sequence_at (Some o) k) found.3
 
-    pub constituent_none : (k : ℕ) → rule_dimension b i ≤ k → None ≡ sequence_length_answer (image_meaning b) f forms k
-    constituent_none k past = sym (ap (option_map length) (sequences k ∙ listing_past (sequence b i) (rule_dimension b i) k past))
-
-    pub sequence_told : (k : ℕ) → k < rule_dimension b i → Some (symbol_count b i k) ≡ sequence_length_answer (image_meaning b) f forms k
-    sequence_told k lt =
-        sym (ap (option_map length) (sequences k ∙ listing_nth (sequence b i) (rule_dimension b i) k lt) ∙ ap Some (listing_length (λ j. symbol_of (symbol_bits b (first_symbol b i k + j))) (symbol_count b i k)))
+    pub sequence_told : (k : ℕ) → then_some (ltb k (rule_dimension b i)) (symbol_count b i k) ≡ sequence_length_answer (image_meaning b) f forms k
+    sequence_told k =
+        told_below (rule_dimension b i) k (sequence b i) length (symbol_count b i k) (λ lt. sym (listing_length (λ j. symbol_of (symbol_bits b (first_symbol b i k + j))) (symbol_count b i k)))
+        ∙ sym (ap (option_map length) (sequences k))
 
     pub symbol_none : (k j : ℕ) → rule_dimension b i ≤ k → None ≡ symbol_answer (image_meaning b) f forms k j
     symbol_none k j past = sym (ap (λ o. at o j) (sequences k ∙ listing_past (sequence b i) (rule_dimension b i) k past))

@@ -17,3 +17,9 @@ LookedUp b f forms OutOfRange = asked (image_meaning b) f forms ≡ None
 LookedUp b f forms Missing = (arguments : List ℕ) × (asked (image_meaning b) f forms ≡ Some arguments) × ((image_meaning b).rule f arguments ≡ None)
 LookedUp b f forms (Entry i) =
     (arguments : List ℕ) × (asked (image_meaning b) f forms ≡ Some arguments) × (i < rules b) × ((image_meaning b).rule f arguments ≡ Some (rule_entry b i).rule)
+
+-- the number of the entry, if the rule has one
+abbrev pub entry_of : Lookup → Option ℕ
+entry_of OutOfRange = None
+entry_of Missing = None
+entry_of (Entry i) = Some i

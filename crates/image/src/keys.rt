@@ -1,43 +1,31 @@
 // Finding a rule by its key among keys that rise.
-ghost use Rattle.std.specs.Prelude.{◌≡◌, ℕ, ◌<◌, true, List};
-ghost use Rattle.std.specs.Ordering.{MatchOrdering};
-ghost use Rattle.demands.specs.Check.{key_rises, rises};
-ghost use Rattle.view.specs.Layout.{rules};
-ghost use Rattle.view.specs.Views.{image as bytes_of};
+ghost use Rattle.std.specs.Prelude.{◌≡◌, slice_index};
+ghost use Rattle.std.specs.Cmp.Lexicographic.{slice_cmp};
+ghost use Rattle.std.specs.Ordering.{nat_cmp};
+ghost use Rattle.view.specs.Grammar.{listing};
+ghost use Rattle.view.specs.Views.{image};
 ghost use Rattle.image.specs.Lookups.{HasKey};
 
+use crate::sound::SoundImage;
 use std::cmp::Ordering;
-use view::ImageView;
 
-// At the first difference the lower byte comes first.
-fn compare_keys(a: [u8; 4], b: [u8; 4]) -> Ordering
-    ensures { MatchOrdering result (rises a b ≡ true) (a ≡ b) (rises b a ≡ true) }
+// How the key that a record begins with compares with the wanted one.
+fn compare_key(record: &[u8; 17], wanted: &[u8; 4]) -> Ordering
+    ensures { result ≡ slice_cmp nat_cmp (listing 4 (slice_index record.now)) wanted.now }
 {
-    for i in 0..4 {
-        if a[i] < b[i] {
-            return Ordering::Less;
-        }
-        if a[i] > b[i] {
-            return Ordering::Greater;
-        }
-    }
-    Ordering::Equal
+    [record[0], record[1], record[2], record[3]].cmp(wanted)
 }
 
-// The number of the rule with that key, by halving.
-pub(crate) fn find_key(view: &ImageView, wanted: [u8; 4]) -> Option<u16>
-    requires { (r : ℕ) → r < rules (bytes_of view.now) → key_rises (bytes_of view.now) r ≡ true }
-    ensures { HasKey (bytes_of view.now) wanted result }
-{
-    let mut low = 0;
-    let mut high = view.rules();
-    while low < high {
-        let middle = low + (high - low) / 2;
-        match compare_keys(view.key(middle), wanted) {
-            Ordering::Less => low = middle + 1,
-            Ordering::Greater => high = middle,
-            Ordering::Equal => return Some(middle),
-        }
+impl SoundImage<'_> {
+    // The number of the rule with that key.
+    pub(crate) fn find_key(&self, wanted: [u8; 4]) -> Option<u16>
+        ensures { HasKey (image self.now.view) wanted result }
+    {
+        let records = self.view.records();
+        let found = records
+            .binary_search_by(|record| compare_key(record, &wanted))
+            .ok()?;
+        // `as`, of a number that fits: `try_from` would want an answer for what cannot happen.
+        Some(found as u16)
     }
-    None
 }

@@ -6,3 +6,4 @@ mod keys;
 pub mod language;
 pub mod load;
 pub mod lookup;
+mod sound;

@@ -12,6 +12,7 @@ pub enum LoadFault {
     Memory,
 }
 
+// By hand: a contract has to know which case `?` makes of an error.
 impl From<ImageFault> for LoadFault {
     ghost from_gives = { λ x r. r ≡ Image x };
 

@@ -1,11 +1,8 @@
 -- Items: all items of a language's trees within a depth, each once.
-use Rattle.std.proofs.Common.{◌≡◌, ℕ, zero, suc, Bool, true, false, ◌&&◌, eqb, ◌↔◌, List, [], ◌∷◌, map, length, Some, None, Decides, Option, sym, refl, ap, ◌∙◌, subst, inl, inr, arith}
-use Rattle.std.specs.List.{slice_get, flat_map}
+use Rattle.std.proofs.Common.{◌≡◌, ℕ, Bool, ◌&&◌, eqb, ◌↔◌, List, map, length, Some, None, Decides, Option, sym, refl, ap, ◌∙◌, subst, inl, inr, arith}
+use Rattle.std.specs.List.{flat_map}
 use Rattle.std.specs.Option.{option_to_list}
-use Rattle.std.proofs.lemmas.Bool.{false≢true}
 use Rattle.std.proofs.lemmas.Bool.Decides.{Decides-and, Decides-eqb, Decides-like}
-use Rattle.grammar.specs.declared.symbol.Window.{Window}
-use Rattle.grammar.specs.declared.symbol.Window.TheVariants.{Inside, Outside}
 use Rattle.grammar.specs.Charts.{Item, ItemOf, Items}
 use Rattle.grammar.specs.Languages.{Meaning, Words}
 use Rattle.grammar.specs.Linearization.{Said, linearized}
@@ -13,6 +10,8 @@ use Rattle.grammar.specs.Lists.{Holds, Distinct, Counted}
 use Rattle.grammar.specs.Questions.{function_result}
 use Rattle.grammar.specs.Trees.{Tree, HasCategory}
 use Rattle.grammar.specs.Trees.Tree.{node}
+use Rattle.grammar.proofs.Nth.{nth_holds}
+use Rattle.grammar.proofs.Sameness.{same_windows, windows_decide}
 use Rattle.readings.proofs.Enumeration.{trees, trees_sound, trees_complete}
 use Rattle.readings.proofs.Membership.{holds_map, holds_joined, joined_holds}
 use Rattle.items.proofs.Distinctness.{each_once, each_once_distinct, once_holds, holds_once}
@@ -62,11 +61,6 @@ listed_is (Some j) i (inr h) = absurd h
 is_listed : (o : Option Item) (i : Item) → o ≡ Some i → Holds (option_to_list o) i
 is_listed o i e = subst (λ p. Holds (option_to_list p) i) (sym e) (inl refl)
 
-nth_holds : {A : Type 0} (xs : List A) (k : ℕ) (x : A) → slice_get xs k ≡ Some x → Holds xs x
-nth_holds [] k x e = let z : ◌≡◌ {A = ℕ} 0 1 = cc in absurd (omega arith)
-nth_holds (y ∷ ys) zero x e = inl (let h : x ≡ y = cc in h)
-nth_holds (y ∷ ys) (suc k) x e = inr (nth_holds ys k x e)
-
 category_made : (m : Meaning) (c : ℕ) (t : Tree) → HasCategory m.signature c t → Holds (made m) c
 category_made m c (node f ts) p =
     subst (Holds (made m)) p.2 (holds_map function_result m.signature.functions p.0 (nth_holds m.signature.functions f p.0 p.1))
@@ -86,36 +80,8 @@ found_complete m phrase d i (p) =
     (holds_joined (λ t. option_to_list (item m phrase c t)) (trees m.signature d c) p.0 i (trees_complete m.signature d c p.0 o.category p.1) (is_listed (item m phrase c p.0) i (item_is m phrase p.0 i o)))
 
 -- whether two items are equal
-abbrev same_window : Window → Window → Bool
-same_window (Inside i n) (Inside j k) = eqb i j && eqb n k
-same_window (Inside i n) Outside = false
-same_window Outside (Inside j k) = false
-same_window Outside Outside = true
-
-abbrev same_windows : List Window → List Window → Bool
-same_windows [] [] = true
-same_windows [] (v ∷ vs) = false
-same_windows (w ∷ ws) [] = false
-same_windows (w ∷ ws) (v ∷ vs) = same_window w v && same_windows ws vs
-
 abbrev pub same_item : Item → Item → Bool
 same_item a b = eqb a.category b.category && (eqb a.form b.form && same_windows a.windows b.windows)
-
-window_decides : (w v : Window) → Decides (same_window w v) (w ≡ v)
-window_decides (Inside i n) (Inside j k) =
-    Decides-like (eqb i j && eqb n k) (λ p x. Inside (p.0 x) (p.1 x)) (λ e. (let h : i ≡ j = cc in h, let h : n ≡ k = cc in h))
-    (Decides-and (eqb i j) (eqb n k) (Decides-eqb i j) (Decides-eqb n k))
-window_decides (Inside i n) Outside = (λ e. absurd (false≢true e), λ e. let z : ◌≡◌ {A = ℕ} 0 1 = cc in absurd (omega arith))
-window_decides Outside (Inside j k) = (λ e. absurd (false≢true e), λ e. let z : ◌≡◌ {A = ℕ} 0 1 = cc in absurd (omega arith))
-window_decides Outside Outside = (λ e. refl, λ e. refl)
-
-windows_decide : (ws vs : List Window) → Decides (same_windows ws vs) (ws ≡ vs)
-windows_decide [] [] = (λ e. refl, λ e. refl)
-windows_decide [] (v ∷ vs) = (λ e. absurd (false≢true e), λ e. let z : ◌≡◌ {A = ℕ} 0 1 = cc in absurd (omega arith))
-windows_decide (w ∷ ws) [] = (λ e. absurd (false≢true e), λ e. let z : ◌≡◌ {A = ℕ} 0 1 = cc in absurd (omega arith))
-windows_decide (w ∷ ws) (v ∷ vs) =
-    Decides-like (same_window w v && same_windows ws vs) (λ p x. p.0 x ∷ p.1 x) (λ e. (let h : w ≡ v = cc in h, let h : ws ≡ vs = cc in h))
-    (Decides-and (same_window w v) (same_windows ws vs) (window_decides w v) (windows_decide ws vs))
 
 pub item_decides : (a b : Item) → Decides (same_item a b) (a ≡ b)
 item_decides a b =

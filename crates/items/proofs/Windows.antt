@@ -1,10 +1,9 @@
 -- Windows: each string of words has one in a phrase, found from the front, and no other.
-use Rattle.std.proofs.Common.{◌≡◌, ℕ, zero, suc, ◌≤◌, Bool, true, false, cond, ◌&&◌, List, [], ◌∷◌, ◌++◌, map, length, sym, refl, ap, ◌∙◌, arith}
+use Rattle.std.proofs.Common.{◌≡◌, ℕ, zero, suc, ◌≤◌, Bool, true, false, cond, ◌&&◌, List, [], ◌∷◌, ◌++◌, map, length, Some, None, Option, sym, refl, ap, ◌∙◌, arith}
 use Rattle.std.specs.Str.{bytes_eq}
 use Rattle.std.proofs.lemmas.Slice.Eq.{bytes_eq-Decides}
 use Rattle.std.proofs.lemmas.Bool.{both_ways, false≢true, and_parts, and_from}
 use Rattle.grammar.specs.declared.symbol.Window.{Window}
-use Rattle.grammar.specs.declared.symbol.Window.TheVariants.{Inside, Outside}
 use Rattle.grammar.specs.Charts.{Occurs, IsWindow, AreWindows}
 use Rattle.grammar.specs.Languages.{Words}
 use Rattle.items.specs.Laws.{WindowExists, WindowIsUnique}
@@ -15,15 +14,18 @@ begins [] ws = true
 begins (x ∷ xs) [] = false
 begins (x ∷ xs) (w ∷ ws) = bytes_eq x w && begins xs ws
 
+abbrev pub inside : ℕ → ℕ → Option Window
+inside i n = Some (record { start = i; length = n })
+
 -- one place further on
-abbrev pub further : Window → Window
-further (Inside i n) = Inside (suc i) n
-further Outside = Outside
+abbrev pub further : Option Window → Option Window
+further None = None
+further (Some w) = inside (suc w.start) w.length
 
 -- the window, found from the front
-abbrev pub window : Words → Words → Window
-window string [] = cond (begins string []) (Inside 0 (length string)) Outside
-window string (w ∷ ws) = cond (begins string (w ∷ ws)) (Inside 0 (length string)) (further (window string ws))
+abbrev pub window : Words → Words → Option Window
+window string [] = cond (begins string []) (inside 0 (length string)) None
+window string (w ∷ ws) = cond (begins string (w ∷ ws)) (inside 0 (length string)) (further (window string ws))
 
 begins_true : (xs ws : Words) → begins xs ws ≡ true → (back : Words) × (ws ≡ xs ++ back)
 begins_true [] ws e = (ws, refl)
@@ -68,19 +70,19 @@ none_past string j o = step o.0 o.2 o.3
     step [] e long = omega arith
     step (f ∷ front) e long = let z : ◌≡◌ {A = ℕ} 0 1 = cc in omega arith
 
-at_front : (phrase string : Words) → begins string phrase ≡ true → IsWindow phrase string (Inside 0 (length string))
+at_front : (phrase string : Words) → begins string phrase ≡ true → IsWindow phrase string (inside 0 (length string))
 at_front phrase string e = (begins_occurs phrase string e, λ j o. omega arith, refl)
 
 not_at_front : (phrase string : Words) → begins string phrase ≡ false → Occurs phrase string 0 → ⊥
 not_at_front phrase string e o = both_ways _ e (occurs_begins phrase string o)
 
-further_window : (w : List ℕ) (ws string : Words) (v : Window) → (Occurs (w ∷ ws) string 0 → ⊥) → IsWindow ws string v → IsWindow (w ∷ ws) string (further v)
-further_window w ws string (Inside i n) front h = (occurs_later w ws string i h.0, least, h.2)
+further_window : (w : List ℕ) (ws string : Words) (v : Option Window) → (Occurs (w ∷ ws) string 0 → ⊥) → IsWindow ws string v → IsWindow (w ∷ ws) string (further v)
+further_window w ws string (Some v) front h = (occurs_later w ws string v.start h.0, least, h.2)
   where
-    least : (j : ℕ) → Occurs (w ∷ ws) string j → suc i ≤ j
+    least : (j : ℕ) → Occurs (w ∷ ws) string j → suc v.start ≤ j
     least zero o = absurd (front o)
     least (suc j) o = omega (arith, h.1 j (later_occurs w ws string j o))
-further_window w ws string Outside front h = nowhere
+further_window w ws string None front h = nowhere
   where
     nowhere : (j : ℕ) → Occurs (w ∷ ws) string j → ⊥
     nowhere zero o = front o
@@ -93,12 +95,12 @@ window_is string [] = by (begins string []) refl
     nowhere e zero o = not_at_front [] string e o
     nowhere e (suc j) o = none_past string j o
 
-    by : (b : Bool) → begins string [] ≡ b → IsWindow [] string (cond b (Inside 0 (length string)) Outside)
+    by : (b : Bool) → begins string [] ≡ b → IsWindow [] string (cond b (inside 0 (length string)) None)
     by true e = at_front [] string e
     by false e = nowhere e
 window_is string (w ∷ ws) = by (begins string (w ∷ ws)) refl (window_is string ws)
   where
-    by : (b : Bool) → begins string (w ∷ ws) ≡ b → IsWindow ws string (window string ws) → IsWindow (w ∷ ws) string (cond b (Inside 0 (length string)) (further (window string ws)))
+    by : (b : Bool) → begins string (w ∷ ws) ≡ b → IsWindow ws string (window string ws) → IsWindow (w ∷ ws) string (cond b (inside 0 (length string)) (further (window string ws)))
     by true e h = at_front (w ∷ ws) string e
     by false e h = further_window w ws string (window string ws) (not_at_front (w ∷ ws) string e) h
 
@@ -106,23 +108,23 @@ pub window_exists : WindowExists
 window_exists phrase string = (window string phrase, window_is string phrase)
 
 pub window_is_unique : WindowIsUnique
-window_is_unique phrase string (Inside i n) (Inside j k) p q =
-    let start : i ≡ j = omega (arith, p.1 j q.0, q.1 i p.0) in
-    let long : n ≡ k = p.2 ∙ sym q.2 in
-    λ x. Inside (start x) (long x)
-window_is_unique phrase string (Inside i n) Outside p q = absurd (q i p.0)
-window_is_unique phrase string Outside (Inside j k) p q = absurd (p j q.0)
-window_is_unique phrase string Outside Outside p q = refl
+window_is_unique phrase string (Some w) (Some v) p q =
+    let start : w.start ≡ v.start = omega (arith, p.1 v.start q.0, q.1 w.start p.0) in
+    let long : w.length ≡ v.length = p.2 ∙ sym q.2 in
+    λ x. inside (start x) (long x)
+window_is_unique phrase string (Some w) None p q = absurd (q w.start p.0)
+window_is_unique phrase string None (Some v) p q = absurd (p v.start q.0)
+window_is_unique phrase string None None p q = refl
 
 -- the same of a row of strings
-abbrev pub windows : Words → List Words → List Window
+abbrev pub windows : Words → List Words → List (Option Window)
 windows phrase ss = map (λ s. window s phrase) ss
 
 pub windows_are : (phrase : Words) (ss : List Words) → AreWindows phrase ss (windows phrase ss)
 windows_are phrase [] = tt
 windows_are phrase (s ∷ ss) = (window_is s phrase, windows_are phrase ss)
 
-pub windows_are_unique : (phrase : Words) (ss : List Words) (ws vs : List Window) → AreWindows phrase ss ws → AreWindows phrase ss vs → ws ≡ vs
+pub windows_are_unique : (phrase : Words) (ss : List Words) (ws vs : List (Option Window)) → AreWindows phrase ss ws → AreWindows phrase ss vs → ws ≡ vs
 windows_are_unique phrase [] [] [] p q = refl
 windows_are_unique phrase [] [] (v ∷ vs) p q = absurd q
 windows_are_unique phrase [] (w ∷ ws) vs p q = absurd p

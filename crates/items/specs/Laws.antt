@@ -1,14 +1,14 @@
 -- The laws of windows and of a chart's counts, over every language, phrase and depth.
-use Rattle.std.specs.Prelude.{◌≡◌, ℕ}
+use Rattle.std.specs.Prelude.{◌≡◌, ℕ, Option}
 use Rattle.grammar.specs.declared.symbol.Window.{Window}
 use Rattle.grammar.specs.Charts.{IsWindow, Counts}
 use Rattle.grammar.specs.Languages.{Meaning, Words}
 
 abbrev pub WindowExists : Type 0
-WindowExists = (phrase string : Words) → (w : Window) × IsWindow phrase string w
+WindowExists = (phrase string : Words) → (w : Option Window) × IsWindow phrase string w
 
 abbrev pub WindowIsUnique : Type 0
-WindowIsUnique = (phrase string : Words) (w v : Window) → IsWindow phrase string w → IsWindow phrase string v → w ≡ v
+WindowIsUnique = (phrase string : Words) (w v : Option Window) → IsWindow phrase string w → IsWindow phrase string v → w ≡ v
 
 abbrev pub CountsExist : Type 0
 CountsExist = (m : Meaning) (phrase : Words) (d : ℕ) → (items : ℕ) × (edges : ℕ) × Counts m phrase d items edges

@@ -4,7 +4,7 @@ ghost use Rattle.layers.specs.declared.either.Either.TheVariants.{First, Second}
 
 use grammar::language::Language;
 use grammar::signature::Arguments;
-use grammar::symbol::{RuleForm, Symbol};
+use grammar::symbol::{RuleForm, RuleKey, Symbol};
 
 #[derive(Drop)]
 pub enum Either<L, R> {
@@ -12,6 +12,7 @@ pub enum Either<L, R> {
     Second(R),
 }
 
+// Each question is handed on by hand, as in `hiding`.
 impl<L: Language, R: Language> Language for Either<L, R> {
     ghost meaning = { chosen L.Language.meaning R.Language.meaning };
 
@@ -80,24 +81,24 @@ impl<L: Language, R: Language> Language for Either<L, R> {
         }
     }
 
-    fn rule(&self, function: u8, forms: [u8; 3]) -> Option<RuleForm> {
+    fn rule(&self, key: RuleKey) -> Option<RuleForm> {
         match self {
-            Either::First(first) => first.rule(function, forms),
-            Either::Second(second) => second.rule(function, forms),
+            Either::First(first) => first.rule(key),
+            Either::Second(second) => second.rule(key),
         }
     }
 
-    fn sequence_length(&self, function: u8, forms: [u8; 3], constituent: u8) -> Option<u8> {
+    fn sequence_length(&self, key: RuleKey, constituent: u8) -> Option<u8> {
         match self {
-            Either::First(first) => first.sequence_length(function, forms, constituent),
-            Either::Second(second) => second.sequence_length(function, forms, constituent),
+            Either::First(first) => first.sequence_length(key, constituent),
+            Either::Second(second) => second.sequence_length(key, constituent),
         }
     }
 
-    fn symbol(&self, function: u8, forms: [u8; 3], constituent: u8, index: u8) -> Option<Symbol> {
+    fn symbol(&self, key: RuleKey, constituent: u8, index: u8) -> Option<Symbol> {
         match self {
-            Either::First(first) => first.symbol(function, forms, constituent, index),
-            Either::Second(second) => second.symbol(function, forms, constituent, index),
+            Either::First(first) => first.symbol(key, constituent, index),
+            Either::Second(second) => second.symbol(key, constituent, index),
         }
     }
 }

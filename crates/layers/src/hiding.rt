@@ -5,12 +5,13 @@ ghost use Rattle.layers.specs.HiddenLemmas.{hidden_lawful};
 
 use grammar::language::Language;
 use grammar::signature::Arguments;
-use grammar::symbol::{RuleForm, Symbol};
+use grammar::symbol::{RuleForm, RuleKey, Symbol};
 
 // The language below, and a mark for each function that is hidden.
 #[derive(Drop)]
 pub struct Hiding<L> {
     below: L,
+    // Fixed memory is a rule of the project, so marks and no set.
     marks: [bool; 64],
 }
 
@@ -37,13 +38,14 @@ impl<L> Hiding<L> {
     pub fn hides(&self, function: u8) -> bool
         ensures { result ≡ hides_of self.now function }
     {
-        match self.marks.get(function as usize) {
-            Some(mark) => *mark,
-            None => false,
-        }
+        self.marks
+            .get(usize::from(function))
+            .copied()
+            .unwrap_or(false)
     }
 
     // Hides one function more; false, and nothing changed, where the number is not below 64.
+    // A `bool`, as a set's `insert` answers: no value stands beside the yes or no.
     pub fn hide(&mut self, function: u8) -> bool
         ensures test { result ≡ nat_lt function 64 }
         ensures below { self.new.below ≡ self.old.below }
@@ -52,11 +54,12 @@ impl<L> Hiding<L> {
         if function >= 64 {
             return false;
         }
-        self.marks[function as usize] = true;
+        self.marks[usize::from(function)] = true;
         true
     }
 }
 
+// Each question is handed on by hand: the trait is another crate's, so one impl for all layers would need a wrapper type around each.
 impl<L: Language> Language for Hiding<L> {
     ghost meaning = { λ h. hidden (hides_of h) (L.Language.meaning h.below) };
 
@@ -99,28 +102,28 @@ impl<L: Language> Language for Hiding<L> {
     }
 
     // A hidden function has no rules, and a question out of range has no answer.
-    fn rule(&self, function: u8, forms: [u8; 3]) -> Option<RuleForm> {
-        let answer = self.below.rule(function, forms)?;
-        if self.hides(function) {
+    fn rule(&self, key: RuleKey) -> Option<RuleForm> {
+        let answer = self.below.rule(key)?;
+        if self.hides(key.function) {
             Some(RuleForm::Missing)
         } else {
             Some(answer)
         }
     }
 
-    fn sequence_length(&self, function: u8, forms: [u8; 3], constituent: u8) -> Option<u8> {
-        if self.hides(function) {
+    fn sequence_length(&self, key: RuleKey, constituent: u8) -> Option<u8> {
+        if self.hides(key.function) {
             None
         } else {
-            self.below.sequence_length(function, forms, constituent)
+            self.below.sequence_length(key, constituent)
         }
     }
 
-    fn symbol(&self, function: u8, forms: [u8; 3], constituent: u8, index: u8) -> Option<Symbol> {
-        if self.hides(function) {
+    fn symbol(&self, key: RuleKey, constituent: u8, index: u8) -> Option<Symbol> {
+        if self.hides(key.function) {
             None
         } else {
-            self.below.symbol(function, forms, constituent, index)
+            self.below.symbol(key, constituent, index)
         }
     }
 }

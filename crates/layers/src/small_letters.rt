@@ -1,11 +1,10 @@
 // A language in small letters: the capitals A to Z of each word are made small, and all else is as below.
-ghost use Rattle.std.specs.Prelude.{◌≡◌};
-ghost use Rattle.layers.specs.Small.{small, small_letters};
+ghost use Rattle.layers.specs.Small.{small_letters};
 ghost use Rattle.layers.specs.SmallLemmas.{small_lawful};
 
 use grammar::language::Language;
 use grammar::signature::Arguments;
-use grammar::symbol::{RuleForm, Symbol};
+use grammar::symbol::{RuleForm, RuleKey, Symbol};
 
 // The language below, whose words are made small.
 #[derive(Drop)]
@@ -13,16 +12,7 @@ pub struct SmallLetters<L> {
     pub below: L,
 }
 
-// A byte of a word, made small where it is a capital.
-fn small_letter(byte: u8) -> u8
-    ensures { result ≡ small byte }
-{
-    match byte {
-        0x41..=0x5A => byte + 0x20,
-        _ => byte,
-    }
-}
-
+// Each question is handed on by hand, as in `hiding`.
 impl<L: Language> Language for SmallLetters<L> {
     ghost meaning = { λ s. small_letters (L.Language.meaning s.below) };
 
@@ -56,24 +46,26 @@ impl<L: Language> Language for SmallLetters<L> {
         self.below.dimension(category)
     }
 
+    #[tactic(auto, using(crate::specs::SmallLemmas::small_length))]
     fn word_length(&self, word: u16) -> Option<u8> {
         self.below.word_length(word)
     }
 
     fn word_byte(&self, word: u16, index: u8) -> Option<u8> {
-        let byte = self.below.word_byte(word, index)?;
-        Some(small_letter(byte))
+        self.below
+            .word_byte(word, index)
+            .map(|byte| byte.to_ascii_lowercase())
     }
 
-    fn rule(&self, function: u8, forms: [u8; 3]) -> Option<RuleForm> {
-        self.below.rule(function, forms)
+    fn rule(&self, key: RuleKey) -> Option<RuleForm> {
+        self.below.rule(key)
     }
 
-    fn sequence_length(&self, function: u8, forms: [u8; 3], constituent: u8) -> Option<u8> {
-        self.below.sequence_length(function, forms, constituent)
+    fn sequence_length(&self, key: RuleKey, constituent: u8) -> Option<u8> {
+        self.below.sequence_length(key, constituent)
     }
 
-    fn symbol(&self, function: u8, forms: [u8; 3], constituent: u8, index: u8) -> Option<Symbol> {
-        self.below.symbol(function, forms, constituent, index)
+    fn symbol(&self, key: RuleKey, constituent: u8, index: u8) -> Option<Symbol> {
+        self.below.symbol(key, constituent, index)
     }
 }

@@ -17,11 +17,11 @@ use Rattle.writer.proofs.Growth.{grown_more, grown_none, still_fits}
 use Rattle.writer.proofs.Spaced.{gap_after, some_more, spaced_longer, spaced_more}
 use Rattle.tree.specs.declared.code.TreeCode.{TreeCode}
 use Rattle.tree.specs.Codes.{IsTree}
-use Rattle.tree.specs.Read.{bytes_of}
+use Rattle.tree.specs.Read.{bytes_of, tree_signature}
 use Rattle.linearizer.specs.declared.frame.Frame.{Frame}
-use Rattle.linearizer.specs.Frames.{frame_symbols, spelling, word_count}
-use Rattle.linearizer.specs.Written.{Ready, room_left}
-use Rattle.linearizer.proofs.Owed.{Owes, further, owes_argument, owes_end, owes_next, owes_start, owes_symbols, starting}
+use Rattle.linearizer.specs.Frames.{frame_symbols, spelling, starting, word_count}
+use Rattle.linearizer.specs.Written.{HasRoom, room_left, SaidTree}
+use Rattle.linearizer.proofs.Owed.{Owes, further, owes_argument, owes_end, owes_next, owes_start, owes_symbols}
 use Rattle.linearizer.proofs.Stacked.{Stacked, stacked_pop, stacked_push}
 
 -- the text of some words that are put down, with the gap and one word more
@@ -45,6 +45,12 @@ next_fits ws w vs {before = before} {between = between} so_far room =
     still_fits (spaced ws) (gap between ++ w) so_far
     (omega (arith, before.within, so_far.fits, length-append (spaced ws) (gap between ++ w), ap length whole, longer, ap (λ v. length (spaced v)) (append_assoc ws (w ∷ []) vs)))
 
+-- the tree of a code is said in the language, its nodes are told in the table, and its text has at most so many bytes
+pub record Ready (m : Meaning) (tree : TreeCode) (table : MeasureTable) (room : ℕ) : Type 0 where
+  pub signature : m.signature ≡ tree_signature tree
+  pub said : SaidTree m tree table
+  pub fits : HasRoom m tree room
+
 -- the words written, those that the frame at work owes, and those that the frames on the stack owe make up all words
 pub record Going (m : Meaning) (t : Tree) (all : Words) (start : WordWriter) (held : List Frame) (frame : Frame) (writer : WordWriter) : Type 0 where
   pub written : Words
@@ -66,7 +72,7 @@ module _ (m : Meaning) (law : Lawful m) (tree : TreeCode) (table : MeasureTable)
         written = [];
         mine = main_constituent s;
         rest = [];
-        grown = grown_none false start start refl refl fresh;
+        grown = grown_none false start start refl refl refl fresh;
         owes = owes_start m law t t 0 0 c (get_or m.dimensions c 0) 0 s (at_start t) is.start (omega (arith, is.within)) said dimension some.0;
         under = refl;
         whole = append-nil (main_constituent s);
@@ -74,7 +80,7 @@ module _ (m : Meaning) (law : Lawful m) (tree : TreeCode) (table : MeasureTable)
 
   module _ {held : List Frame} {frame : Frame} {writer : WordWriter} (go : Going m t (main_constituent s) start held frame writer) where
     symbols : frame_symbols m tree table frame ≡ go.owes.symbols
-    symbols = owes_symbols m law tree table t is (ready.measured t is) go.owes
+    symbols = owes_symbols m law tree table t is (ready.said t is).1 go.owes
 
     -- a word comes next: it has room, and is then written
     module _ (n : ℕ) (h : slice_get (frame_symbols m tree table frame) frame.next ≡ Some (Word n)) where
@@ -109,7 +115,7 @@ module _ (m : Meaning) (law : Lawful m) (tree : TreeCode) (table : MeasureTable)
       argument : Owes m t (suc (length held)) (starting place k) words × (word_count (measured_at table place).said k ≡ length words)
       argument =
           subst (λ j. Owes m t (suc (length held)) (starting j k) words × (word_count (measured_at table j).said k ≡ length words)) (sym there)
-          (owes_argument m law tree table t is (ready.measured t is) go.owes a k here)
+          (owes_argument m law tree table t is (ready.said t is).1 go.owes a k here)
 
       past : (rest : Words) × (go.mine ≡ words ++ rest) × Owes m t (length held) (further frame) rest
       past = owes_next go.owes (Reference a k) here

@@ -1,7 +1,6 @@
 -- The words that a frame owes, and what its next symbol makes of them.
-use Rattle.std.proofs.Common.{◌≡◌, ℕ, zero, suc, ◌+◌, ◌<◌, ◌≤◌, List, [], ◌++◌, map, length, get_or, drop, Some, None, Option, sym, refl, ap, ◌∙◌, subst, add-one, arith}
+use Rattle.std.proofs.Common.{◌≡◌, ℕ, zero, suc, ◌+◌, ◌<◌, ◌≤◌, List, [], ◌++◌, map, length, get_or, drop, Some, None, Ok, Option, sym, refl, ap, ◌∙◌, subst, add-one, arith}
 use Rattle.std.specs.List.{slice_get, flat_map, AllByRecursion}
-use Rattle.std.specs.Option.{option_map}
 use Rattle.std.proofs.lemmas.List.{drop_all}
 use Rattle.std.proofs.lemmas.Option.{slice_get-get_or}
 use Rattle.grammar.proofs.Optional.{none_some}
@@ -18,15 +17,16 @@ use Rattle.saying.specs.Mute.{At, RowAt}
 use Rattle.saying.proofs.Muteness.{node_parts, more_parts}
 use Rattle.saying.proofs.Places.{arguments_at, at_byte, at_category}
 use Rattle.measure.specs.declared.table.MeasureTable.{MeasureTable}
-use Rattle.measure.specs.Measured.{Measured, measured_at}
-use Rattle.measure.specs.Sizes.{forms_said, measure_of, node_measure, padded, row_places}
+use Rattle.measure.specs.Measured.{measured_at}
+use Rattle.measure.specs.Sizes.{forms_said, measure_of, padded, row_places}
 use Rattle.measure.proofs.Asked.{answered_sequence, answered_short, node_asked}
 use Rattle.tree.specs.declared.code.TreeCode.{TreeCode}
 use Rattle.tree.specs.Codes.{IsTree}
 use Rattle.tree.specs.Read.{bytes_of}
 use Rattle.linearizer.specs.declared.frame.Frame.{Frame}
 use Rattle.measure.specs.Sums.{or_no_symbols}
-use Rattle.linearizer.specs.Frames.{frame_symbols, sequence_of, word_count}
+use Rattle.linearizer.specs.Frames.{frame_symbols, sequence_of, starting, word_count}
+use Rattle.linearizer.specs.Written.{NodesTold}
 use Rattle.grammar.proofs.Nth.{all_nth, drop_nth, nth_below}
 use Rattle.linearizer.proofs.Walking.{nth_end, nth_mapped}
 
@@ -47,10 +47,6 @@ pub record Owes (m : Meaning) (t : Tree) (level : ℕ) (frame : Frame) (ws : Wor
 -- a frame that is one symbol further on
 abbrev pub further : Frame → Frame
 further frame = record { place = frame.place; constituent = frame.constituent; next = frame.next + 1 }
-
--- a frame at the start of a constituent
-abbrev pub starting : ℕ → ℕ → Frame
-starting place k = record { place = place; constituent = k; next = 0 }
 
 -- at the start a frame owes the whole constituent
 pub owes_start : (m : Meaning) → Lawful m → (t u : Tree) (level place c dimension k : ℕ) (s : Said) → At t place u → HasCategory m.signature c u → level + depth u ≤ 6 → linearized m u ≡ Some s → slice_get m.dimensions c ≡ Some dimension → k < dimension → Owes m t level (starting place k) (get_or s.constituents k [])
@@ -122,22 +118,16 @@ padded_read ns (suc (suc zero)) lt = refl
 padded_read ns (suc (suc (suc a))) lt = absurd (omega arith)
 
 -- the size in a measure is that of the constituent
-size_read : (s : Said) (k : ℕ) → k < 4 → word_count (Some (measure_of s)) k ≡ length (get_or s.constituents k [])
+size_read : (s : Said) (k : ℕ) → k < 4 → word_count (Ok (measure_of s)) k ≡ length (get_or s.constituents k [])
 size_read s zero lt = refl
 size_read s (suc zero) lt = refl
 size_read s (suc (suc zero)) lt = refl
 size_read s (suc (suc (suc zero))) lt = refl
 size_read s (suc (suc (suc (suc k)))) lt = absurd (omega arith)
 
-measure_said : (m : Meaning) (j : ℕ) (u : Tree) → (node_measure m j u).said ≡ option_map measure_of (linearized m u)
-measure_said m j (node f ts) = refl
-
-count_said : (m : Meaning) (table : MeasureTable) (j : ℕ) (u : Tree) (s : Said) (k : ℕ) → measured_at table j ≡ node_measure m j u → linearized m u ≡ Some s → k < 4 → word_count (measured_at table j).said k ≡ length (get_or s.constituents k [])
-count_said m table j u s k measured said lt =
-    ap (λ n. word_count n.said k) measured
-    ∙ ap (λ q. word_count q k) (measure_said m j u)
-    ∙ ap (λ q. word_count (option_map measure_of q) k) said
-    ∙ size_read s k lt
+count_said : (m : Meaning) (table : MeasureTable) (t : Tree) → NodesTold m t table → (j : ℕ) (u : Tree) (s : Said) (k : ℕ) → At t j u → linearized m u ≡ Some s → k < 4 → word_count (measured_at table j).said k ≡ length (get_or s.constituents k [])
+count_said m table t told j (node f ts) s k there said lt =
+    ap (λ q. word_count q k) ((told j f ts there).2 s said) ∙ size_read s k lt
 
 module _ (m : Meaning) (law : Lawful m) where
   -- a reference names one of three arguments, and one of four constituents
@@ -180,7 +170,7 @@ module _ (m : Meaning) (law : Lawful m) where
         by_byte None = omega arith
         by_byte (Some f) = by_answer f (sequence_answer m f (measured_at table frame.place).forms frame.constituent) refl
 
-  module _ (tree : TreeCode) (table : MeasureTable) (t : Tree) (is : IsTree m.signature (bytes_of tree) t) (measured : Measured m t table) {level : ℕ} {frame : Frame} {ws : Words} (o : Owes m t level frame ws) where
+  module _ (tree : TreeCode) (table : MeasureTable) (t : Tree) (is : IsTree m.signature (bytes_of tree) t) (told : NodesTold m t table) {level : ℕ} {frame : Frame} {ws : Words} (o : Owes m t level frame ws) where
     -- the node's function has arguments of these categories
     categories : (function : Function) × (slice_get m.signature.functions o.function ≡ Some function) × HaveCategories m.signature function.arguments o.trees
     categories =
@@ -194,7 +184,7 @@ module _ (m : Meaning) (law : Lawful m) where
         let k = frame.constituent in
         let here = measured_at table frame.place in
         let byte : slice_get (bytes_of tree) frame.place ≡ Some f = subst (λ bytes. slice_get bytes frame.place ≡ Some f) is.coded (at_byte t frame.place f o.trees o.there) in
-        let forms : here.forms ≡ padded (map said_form o.arguments) = ap (λ n. n.forms) (measured frame.place (node f o.trees) o.there) ∙ ap (λ all. padded (forms_said all)) o.said in
+        let forms : here.forms ≡ padded (map said_form o.arguments) = (told frame.place f o.trees o.there).1 ∙ ap (λ all. padded (forms_said all)) o.said in
         let function = categories in
         let key = node_asked m law f o.trees function.0 o.arguments function.1 function.2 o.said in
         ap (λ b. sequence_of m b here.forms k) byte
@@ -215,9 +205,9 @@ module _ (m : Meaning) (law : Lawful m) where
         let row = arguments_at t frame.place o.function o.trees o.there in
         let argument = row_argument m t (suc frame.place) o.trees m.signature function.0.arguments o.arguments a lawful.0 row function.2 o.said lawful.2 in
         let place = get_or (measured_at table frame.place).places a 0 in
-        let places = ap (λ n. get_or n.places a 0) (measured frame.place (node o.function o.trees) o.there) ∙ padded_read (row_places (suc frame.place) o.trees) a small.0 in
+        let places = ap (λ ps. get_or ps a 0) (told frame.place o.function o.trees o.there).0 ∙ padded_read (row_places (suc frame.place) o.trees) a small.0 in
         let there : At t place argument.0 = subst (λ j. At t j argument.0) (sym places) argument.1 in
         let s = get_or o.arguments a nothing_said in (
           owes_start m law t argument.0 (suc level) place lawful.0 lawful.1 k s there argument.2 (omega (arith, o.shallow, argument.4)) argument.3 lawful.3 lawful.4,
-          count_said m table place argument.0 s k (measured place argument.0 there) argument.3 small.1,
+          count_said m table t told place argument.0 s k there argument.3 small.1,
         )

@@ -1,21 +1,21 @@
 -- Saying a tree: from its measures to the answer.
-use Rattle.std.proofs.Common.{◌≡◌, ℕ, ◌+◌, ◌-◌, ◌<◌, ◌≤◌, List, [], ◌++◌, length, take, drop, Some, Ok, Err, sym, refl, ap, ◌∙◌, subst, append-nil, arith}
-use Rattle.std.specs.Option.{option_map}
+use Rattle.std.proofs.Common.{◌≡◌, ℕ, ◌+◌, ◌-◌, ◌<◌, ◌≤◌, List, [], ◌++◌, length, take, drop, is_some, Some, Ok, Err, sym, refl, ap, ◌∙◌, subst, append-nil, arith}
 use Rattle.std.proofs.lemmas.List.{drop_all}
 use Rattle.fault.specs.declared.kinds.SayFault.{SayFault}
 use Rattle.fault.specs.declared.kinds.SayFault.TheVariants.{OtherSignature, Mute, NoRoom}
 use Rattle.grammar.specs.Languages.{Meaning}
 use Rattle.grammar.specs.Linearization.{Said, linearized, main_constituent, spaced}
 use Rattle.grammar.specs.Trees.{Tree}
+use Rattle.grammar.specs.Trees.Tree.{node}
 use Rattle.saying.specs.Sizes.{text_length}
 use Rattle.saying.proofs.Lengths.{text_length_by_sums}
 use Rattle.saying.proofs.Places.{at_start}
 use Rattle.measure.specs.declared.kinds.NodeMeasure.{NodeMeasure}
 use Rattle.measure.specs.declared.table.MeasureTable.{MeasureTable}
-use Rattle.measure.specs.Measured.{measured_at, Measured}
+use Rattle.measure.specs.Measured.{measured_at}
 use Rattle.measure.specs.Scanned.{MeasuredAs}
 use Rattle.measure.specs.Sizes.{measure_of}
-use Rattle.measure.proofs.Rows.{measure_said}
+use Rattle.measure.proofs.Rows.{said_measure}
 use Rattle.writer.specs.PutDown.{put_down}
 use Rattle.tree.specs.declared.code.TreeCode.{TreeCode}
 use Rattle.tree.specs.Codes.{IsTree}
@@ -24,12 +24,20 @@ use Rattle.tree.proofs.Filled.{code_is_tree}
 use Rattle.linearizer.specs.declared.text.TextFault.TheVariants.{Unsaid}
 use Rattle.linearizer.specs.Says.{SaysCode, TextOf}
 use Rattle.linearizer.specs.Texts.{TextTold}
-use Rattle.linearizer.specs.Written.{AtFront, Ready}
+use Rattle.linearizer.specs.Written.{AtFront, HasRoom, NodesTold, SaidTree}
 
 -- the whole tree's measure stands at the front of the table
-pub root_measure : (m : Meaning) (t : Tree) (s : Said) (table : MeasureTable) (n : NodeMeasure) → Measured m t table → linearized m t ≡ Some s → n ≡ measured_at table 0 → n.said ≡ Some (measure_of s)
-root_measure m t s table n measured said is =
-    ap (λ (x : NodeMeasure). x.said) (is ∙ measured 0 t (at_start t)) ∙ measure_said m 0 t ∙ ap (option_map measure_of) said
+pub root_measure : (m : Meaning) (t : Tree) (s : Said) (table : MeasureTable) (n : NodeMeasure) → NodesTold m t table → linearized m t ≡ Some s → n ≡ measured_at table 0 → n.said ≡ Ok (measure_of s)
+root_measure m (node f ts) s table n told said is = ap (λ (x : NodeMeasure). x.said) is ∙ (told 0 f ts (at_start (node f ts))).2 s said
+
+-- what is measured is said, and each node is told
+pub measured_said : (m : Meaning) (code : TreeCode) (table : MeasureTable) → MeasuredAs m code (Ok table) → SaidTree m code table
+measured_said m code table told t is = let all = told.1 t is in (
+  ap is_some all.1,
+  λ j f ts at.
+      let here = all.2 j (node f ts) at in
+      (here.places, here.forms, λ s e. said_measure m j (node f ts) s (measured_at table j) here e),
+)
 
 -- the tree of a code, in a language of its signature
 code_tree : (m : Meaning) (code : TreeCode) → tree_signature code ≡ m.signature → (t : Tree) × IsTree (tree_signature code) (bytes_of code) t × IsTree m.signature (bytes_of code) t
@@ -43,10 +51,10 @@ unmeasured_refused m code page start (Mute i) told =
     let tree = code_tree m code told.0 in record { tree = tree.0; is = tree.1; says = (told.0, told.1 tree.0 tree.2, refl) }
 unmeasured_refused m code page start (NoRoom n) told = absurd told
 
-module _ (m : Meaning) (code : TreeCode) (table : MeasureTable) (told : MeasuredAs m code (Ok table)) (n : ℕ) (long : (l : Meaning) (t : Tree) (s : Said) → Measured l t table → linearized l t ≡ Some s → n ≡ text_length (main_constituent s)) where
+module _ (m : Meaning) (code : TreeCode) (table : MeasureTable) (told : MeasuredAs m code (Ok table)) (n : ℕ) (long : (t : Tree) (s : Said) → IsTree m.signature (bytes_of code) t → linearized m t ≡ Some s → n ≡ text_length (main_constituent s)) where
   -- the sums are the length of the text
   text_is : (t : Tree) (s : Said) → IsTree m.signature (bytes_of code) t → linearized m t ≡ Some s → n ≡ length (spaced (main_constituent s))
-  text_is t s is said = long m t s (told.1 t is).2 said ∙ sym (text_length_by_sums (main_constituent s))
+  text_is t s is said = long t s is said ∙ sym (text_length_by_sums (main_constituent s))
 
   -- a text that does not fit is refused with its length
   pub long_refused : (page : List ℕ) (start : ℕ) → length page < start + n → SaysCode m code page start (Err (NoRoom n)) page
@@ -60,14 +68,9 @@ module _ (m : Meaning) (code : TreeCode) (table : MeasureTable) (told : Measured
         says = (told.0, (text, (main_constituent said.0, (said.0, said.1, refl), refl), text_is tree.0 said.0 tree.2 said.1, past, refl));
       }
 
-  -- a text that fits is ready to be written
-  pub fitting_ready : (room : ℕ) → n ≤ room → Ready m code table room
-  fitting_ready room fits = record {
-    signature = sym told.0;
-    said = λ t is. let p = told.1 t is in (p.0, p.1);
-    measured = λ t is. (told.1 t is).2;
-    fits = λ t s is said. omega (arith, text_is t s is said);
-  }
+  -- a text that fits has room
+  pub fitting_room : (room : ℕ) → n ≤ room → HasRoom m code room
+  fitting_room room fits t s is said = omega (arith, text_is t s is said)
 
   -- and then stands on the page
   pub written_said : (page : List ℕ) (start : ℕ) (after part : List ℕ) → start + n ≤ length page → AtFront m code (take (length page - start) (drop start page)) part → ((text : List ℕ) → part ≡ put_down (take (length page - start) (drop start page)) 0 text → after ≡ put_down page start text) → SaysCode m code page start (Ok n) after
@@ -88,7 +91,7 @@ unmeasured_text bytes m code (Mute i) told = let tree = code_tree m code told.0 
 unmeasured_text bytes m code (NoRoom n) told = absurd told
 
 -- a text that fills what it is written on is all that stands there
-pub filled_text : (m : Meaning) (code : TreeCode) (table : MeasureTable) → MeasuredAs m code (Ok table) → (n : ℕ) → ((l : Meaning) (t : Tree) (s : Said) → Measured l t table → linearized l t ≡ Some s → n ≡ text_length (main_constituent s)) → (before after : List ℕ) → length before ≡ n → AtFront m code before after → (length after ≡ n) × (tree_signature code ≡ m.signature) × ((t : Tree) × IsTree (tree_signature code) (bytes_of code) t × TextOf m t after)
+pub filled_text : (m : Meaning) (code : TreeCode) (table : MeasureTable) → MeasuredAs m code (Ok table) → (n : ℕ) → ((t : Tree) (s : Said) → IsTree m.signature (bytes_of code) t → linearized m t ≡ Some s → n ≡ text_length (main_constituent s)) → (before after : List ℕ) → length before ≡ n → AtFront m code before after → (length after ≡ n) × (tree_signature code ≡ m.signature) × ((t : Tree) × IsTree (tree_signature code) (bytes_of code) t × TextOf m t after)
 filled_text m code table told n long before after room front =
     let tree = code_tree m code told.0 in
     let said = told.1 tree.0 tree.2 in

@@ -1,12 +1,13 @@
 -- The words of a language, byte by byte.
-use Rattle.std.proofs.Common.{◌≡◌, ℕ, zero, suc, ◌+◌, ◌≤◌, Bool, true, List, [], ◌∷◌, ◌++◌, length, get_or, take, Some, Option, sym, refl, ◌∙◌, add-one, arith}
-use Rattle.std.specs.List.{slice_get, AllByRecursion}
+use Rattle.std.proofs.Common.{◌≡◌, ℕ, zero, suc, ◌+◌, ◌≤◌, Bool, true, List, [], ◌∷◌, ◌++◌, length, get_or, take, Some, Option, unwrap_or, sym, refl, ap, ◌∙◌, add-one, arith}
+use Rattle.std.specs.List.{slice_get}
 use Rattle.std.proofs.lemmas.List.{length-append, length-take-le}
-use Rattle.grammar.specs.Languages.{Lawful, Meaning, Words}
-use Rattle.grammar.specs.Questions.{at, word_byte_answer}
+use Rattle.grammar.specs.Languages.{Meaning, Words}
+use Rattle.grammar.specs.Questions.{at, word_byte_answer, word_length_answer}
 use Rattle.writer.specs.declared.WordWriter.{WordWriter}
 use Rattle.writer.specs.PutDown.{gap, Grown, Puts}
 use Rattle.writer.proofs.Growth.{grown_on, still_fits, put_fits}
+use Rattle.measure.proofs.Adding.{word_told}
 use Rattle.linearizer.specs.Frames.{spelling}
 use Rattle.grammar.proofs.Nth.{nth_below}
 use Rattle.linearizer.proofs.Walking.{nth_taken}
@@ -17,16 +18,12 @@ at_word [] n i = refl
 at_word (w ∷ ws) zero i = refl
 at_word (w ∷ ws) (suc n) i = at_word ws n i
 
-pub word_told : (m : Meaning) (n i : ℕ) (o : Option ℕ) → o ≡ word_byte_answer m n i → slice_get (spelling m n) i ≡ o
-word_told m n i o told = sym (told ∙ at_word m.words n i)
+pub byte_told : (m : Meaning) (n i : ℕ) (o : Option ℕ) → o ≡ word_byte_answer m n i → slice_get (spelling m n) i ≡ o
+byte_told m n i o told = sym (told ∙ at_word m.words n i)
 
-short : (ws : Words) (n : ℕ) → AllByRecursion (λ w. (1 ≤ length w) × (length w ≤ 24)) ws → length (get_or ws n []) ≤ 24
-short [] n a = omega arith
-short (w ∷ ws) zero a = a.0.1
-short (w ∷ ws) (suc n) a = short ws n a.1
-
-pub spelling_short : (m : Meaning) → Lawful m → (n : ℕ) → length (spelling m n) ≤ 24
-spelling_short m law n = short m.words n law.spelling_range
+-- and so is the length
+pub word_long : (m : Meaning) (n : ℕ) (count : Option ℕ) (k : ℕ) → count ≡ word_length_answer m n → k ≡ unwrap_or count 0 → k ≡ length (spelling m n)
+word_long m n count k told is = is ∙ ap (λ o. unwrap_or o 0) told ∙ word_told m.words n
 
 -- a word that has room with its gap begins, and still has room
 pub grown_gap : (w : List ℕ) (r : Bool) {before between : WordWriter} → before.used + length (gap before ++ w) ≤ length before.part.now → Puts (gap before) true before r between → Grown (gap before) true before between × (between.used + length w ≤ length between.part.now)

@@ -1,7 +1,7 @@
 -- The turns of writing, for the tree of a code: what each leaves to write, and that each leaves less.
 use Rattle.std.proofs.Common.{◌≡◌, ℕ, ◌+◌, ◌-◌, ◌<◌, ◌≤◌, Bool, true, false, List, [], ◌∷◌, ◌++◌, length, get_or, Some, None, sym, refl, ap, ◌∙◌, subst, arith}
 use Rattle.std.specs.List.{slice_get}
-use Rattle.grammar.proofs.Optional.{no_value}
+use Rattle.grammar.proofs.Optional.{no_value, some_value}
 use Rattle.grammar.specs.declared.symbol.Symbol.{Symbol}
 use Rattle.grammar.specs.declared.symbol.Symbol.TheVariants.{Word, Reference}
 use Rattle.grammar.specs.Languages.{Lawful, Meaning}
@@ -16,10 +16,10 @@ use Rattle.tree.specs.Codes.{IsTree, tree_fault}
 use Rattle.tree.specs.Read.{bytes_of, tree_signature}
 use Rattle.tree.proofs.Filled.{faultless_is_tree}
 use Rattle.linearizer.specs.declared.frame.Frame.{Frame}
-use Rattle.linearizer.specs.Frames.{frame_symbols, spelling, word_count}
-use Rattle.linearizer.specs.Written.{Ready, Wrote, room_left}
-use Rattle.linearizer.proofs.Going.{Going, going_start, going_fits, going_word, going_past, going_level, going_down, going_up, going_end}
-use Rattle.linearizer.proofs.Owed.{further, reference_small, starting, symbols_short}
+use Rattle.linearizer.specs.Frames.{frame_symbols, spelling, starting, word_count}
+use Rattle.linearizer.specs.Written.{HasRoom, SaidTree, Wrote, room_left}
+use Rattle.linearizer.proofs.Going.{Going, Ready, going_start, going_fits, going_word, going_past, going_level, going_down, going_up, going_end}
+use Rattle.linearizer.proofs.Owed.{further, reference_small, symbols_short}
 use Rattle.linearizer.proofs.Stacked.{potential, potential_step, potential_push}
 use Rattle.grammar.proofs.Nth.{nth_below}
 
@@ -61,18 +61,23 @@ module _ {m : Meaning} (law : Lawful m) (tree : TreeCode) (table : MeasureTable)
   pub told_small : (a k : ℕ) → x ≡ Reference a k → (a < 3) × (k < 4)
   told_small a k e = reference_small m law tree table frame a k frame.next (sym told ∙ ap Some e)
 
+-- a tree that is said, and has room for its text, is ready to be written
+pub ready_for : (m : Meaning) (tree : TreeCode) (table : MeasureTable) (start : WordWriter) → m.signature ≡ tree_signature tree → SaidTree m tree table → HasRoom m tree (room_left start) → Ready m tree table (room_left start)
+ready_for m tree table start signature said fits = record { signature = signature; said = said; fits = fits }
+
 -- there is a tree of the code, and it is said
 some_tree : {m : Meaning} {tree : TreeCode} {table : MeasureTable} {room : ℕ} → Ready m tree table room → (t : Tree) × (s : Said) × IsTree m.signature (bytes_of tree) t × (linearized m t ≡ Some s)
-some_tree {tree = tree} ready =
+some_tree {m = m} {tree = tree} ready =
     let sound = faultless_is_tree (tree_signature tree) (bytes_of tree) (no_value (tree_fault (tree_signature tree) (bytes_of tree)) tree.sound) in
     let is = subst (λ signature. IsTree signature (bytes_of tree) sound.0) (sym ready.signature) sound.1 in
-    let said = ready.said sound.0 is in
+    let said = some_value (linearized m sound.0) (ready.said sound.0 is).0 in
     (sound.0, said.0, is, said.1)
 
 module _ {m : Meaning} {tree : TreeCode} {table : MeasureTable} {start : WordWriter} (law : Lawful m) (ready : Ready m tree table (room_left start)) where
-  pub underway_start : (held : List Frame) → held ≡ [] → start.started ≡ false → Underway m tree start held (starting 0 0) start
-  underway_start held empty fresh t s is said =
-      subst (λ xs. Going m t (main_constituent s) start xs (starting 0 0) start) (sym empty) (going_start m law tree table ready t s is said fresh)
+  pub underway_start : (held : List Frame) (frame : Frame) → held ≡ [] → frame ≡ starting 0 0 → start.started ≡ false → Underway m tree start held frame start
+  underway_start held frame empty first fresh t s is said =
+      subst (λ f. Going m t (main_constituent s) start held f start) (sym first)
+      (subst (λ xs. Going m t (main_constituent s) start xs (starting 0 0) start) (sym empty) (going_start m law tree table ready t s is said fresh))
 
   module _ {held : List Frame} {frame : Frame} {writer : WordWriter} (go : Underway m tree start held frame writer) where
     -- a word comes next: it has room, and is then written
@@ -96,10 +101,11 @@ module _ {m : Meaning} {tree : TreeCode} {table : MeasureTable} {start : WordWri
           let q = some_tree ready in
           going_level m law tree table ready q.0 q.1 q.2 q.3 (go q.0 q.1 q.2 q.3) a k place (sym told ∙ ap Some e) there
 
-      pub underway_down : (above : List Frame) → above ≡ held ++ further frame ∷ [] → Underway m tree start above (starting place k) writer
-      underway_down above pushed t s is said =
-          subst (λ xs. Going m t (main_constituent s) start xs (starting place k) writer) (sym pushed)
-          (going_down m law tree table ready t s is said (go t s is said) a k place (sym told ∙ ap Some e) there)
+      pub underway_down : (above : List Frame) (child : Frame) → above ≡ held ++ further frame ∷ [] → child ≡ starting place k → Underway m tree start above child writer
+      underway_down above child pushed first t s is said =
+          subst (λ f. Going m t (main_constituent s) start above f writer) (sym first)
+          (subst (λ xs. Going m t (main_constituent s) start xs (starting place k) writer) (sym pushed)
+          (going_down m law tree table ready t s is said (go t s is said) a k place (sym told ∙ ap Some e) there))
 
     -- the sequence is at its end: the frame below comes to work, or the text is written
     module _ (told : None ≡ slice_get (frame_symbols m tree table frame) frame.next) where

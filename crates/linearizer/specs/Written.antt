@@ -1,26 +1,44 @@
 -- What writing the text of a tree needs, and what it leaves.
-use Rattle.std.specs.Prelude.{◌≡◌, ℕ, ◌-◌, ◌≤◌, List, length, Some}
+use Rattle.std.specs.Prelude.{◌≡◌, ℕ, suc, ◌-◌, ◌≤◌, true, List, length, is_some, Some, Ok}
 use Rattle.grammar.specs.Languages.{Meaning}
-use Rattle.grammar.specs.Linearization.{Said, linearized, main_constituent, spaced}
-use Rattle.grammar.specs.Trees.{Tree}
+use Rattle.grammar.specs.Linearization.{Said, linearized, linearized_all, main_constituent, spaced}
+use Rattle.grammar.specs.Trees.{Tree, Trees}
+use Rattle.grammar.specs.Trees.Tree.{node}
+use Rattle.saying.specs.Mute.{At}
+use Rattle.measure.specs.declared.kinds.NodeMeasure.{NodeMeasure}
 use Rattle.measure.specs.declared.table.MeasureTable.{MeasureTable}
-use Rattle.measure.specs.Measured.{Measured}
+use Rattle.measure.specs.Measured.{measured_at}
+use Rattle.measure.specs.Sizes.{forms_said, measure_of, padded, row_places}
 use Rattle.writer.specs.declared.WordWriter.{WordWriter}
 use Rattle.writer.specs.PutDown.{put_down, Grown, some_words}
 use Rattle.tree.specs.declared.code.TreeCode.{TreeCode}
 use Rattle.tree.specs.Codes.{IsTree}
-use Rattle.tree.specs.Read.{bytes_of, tree_signature}
+use Rattle.tree.specs.Read.{bytes_of}
 
 -- how many bytes more a writer can put down
 abbrev pub room_left : WordWriter → ℕ
 room_left w = length w.part.now - w.used
 
--- the tree of a code is said in the language, its nodes are measured, and its text has at most so many bytes
-pub record Ready (m : Meaning) (tree : TreeCode) (table : MeasureTable) (room : ℕ) : Type 0 where
-  pub signature : m.signature ≡ tree_signature tree
-  pub said : (t : Tree) → IsTree m.signature (bytes_of tree) t → (s : Said) × (linearized m t ≡ Some s)
-  pub measured : (t : Tree) → IsTree m.signature (bytes_of tree) t → Measured m t table
-  pub fits : (t : Tree) (s : Said) → IsTree m.signature (bytes_of tree) t → linearized m t ≡ Some s → length (spaced (main_constituent s)) ≤ room
+-- of the node of function f over the trees ts, at place j of a code: the places and the forms of its arguments, and its measure, where it has a linearization
+abbrev pub NodeTold : Meaning → ℕ → ℕ → Trees → NodeMeasure → Type 0
+NodeTold m j f ts n =
+    (n.places ≡ padded (row_places (suc j) ts))
+    × (n.forms ≡ padded (forms_said (linearized_all m ts)))
+    × ((s : Said) → linearized m (node f ts) ≡ Some s → n.said ≡ Ok (measure_of s))
+
+-- each node of the tree is told at its place in the table
+abbrev pub NodesTold : Meaning → Tree → MeasureTable → Type 0
+NodesTold m t table = (j f : ℕ) (ts : Trees) → At t j (node f ts) → NodeTold m j f ts (measured_at table j)
+
+-- the tree of a code is said in the language, and its nodes are told in the table
+abbrev pub SaidTree : Meaning → TreeCode → MeasureTable → Type 0
+SaidTree m tree table =
+    (t : Tree) → IsTree m.signature (bytes_of tree) t → (is_some (linearized m t) ≡ true) × NodesTold m t table
+
+-- its text has at most so many bytes
+abbrev pub HasRoom : Meaning → TreeCode → ℕ → Type 0
+HasRoom m tree room =
+    (t : Tree) (s : Said) → IsTree m.signature (bytes_of tree) t → linearized m t ≡ Some s → length (spaced (main_constituent s)) ≤ room
 
 -- the writer has put down the text of the tree
 abbrev pub Wrote : Meaning → TreeCode → WordWriter → WordWriter → Type 0

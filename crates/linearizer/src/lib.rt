@@ -3,6 +3,7 @@
 
 mod frame;
 pub mod laws;
+mod measured;
 pub mod say;
 pub mod text;
 mod words;

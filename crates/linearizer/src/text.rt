@@ -10,12 +10,13 @@ use std::fmt;
 pub mod whole;
 
 // The tree is not said, or there is no memory for its text.
-#[derive(Clone, Copy)]
+#[derive(Clone, Copy, Debug, PartialEq, Eq)]
 pub enum TextFault {
     Unsaid(SayFault),
     Memory,
 }
 
+// By hand: a contract has to know which case `?` makes of an error.
 impl From<SayFault> for TextFault {
     ghost from_gives = { λ x r. r ≡ Unsaid x };
 
@@ -32,6 +33,7 @@ impl From<AllocError> for TextFault {
     }
 }
 
+// By hand, as each case has a text of its own.
 impl fmt::Display for TextFault {
     ghost output = { λ x. Some (text_line x) };
 

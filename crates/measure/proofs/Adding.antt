@@ -1,11 +1,10 @@
 -- How sizes add up: words and their lengths, symbols one after the other, and the sizes that three arguments have.
-use Rattle.std.proofs.Common.{◌≡◌, ℕ, zero, suc, ◌+◌, ◌<◌, List, [], ◌∷◌, ◌++◌, length, get_or, take, Some, None, sym, refl, ap, ◌∙◌, arith}
+use Rattle.std.proofs.Common.{◌≡◌, ℕ, zero, suc, ◌+◌, ◌<◌, List, [], ◌∷◌, ◌++◌, length, get_or, take, Some, unwrap_or, sym, refl, ap, ◌∙◌, arith}
 use Rattle.std.specs.List.{slice_get, flat_map}
 use Rattle.std.specs.Option.{option_map}
 use Rattle.std.proofs.lemmas.List.{flat_map_more, length-append, take_more}
 use Rattle.std.proofs.lemmas.Option.{slice_get-get_or}
 use Rattle.grammar.proofs.Nth.{nth_below}
-use Rattle.grammar.proofs.Optional.{none_some}
 use Rattle.grammar.specs.Languages.{Words}
 use Rattle.grammar.specs.Linearization.{Said, nothing_said}
 use Rattle.saying.specs.Sizes.{spelled_bytes}
@@ -15,16 +14,11 @@ use Rattle.measure.specs.declared.kinds.Size.{Size}
 use Rattle.measure.specs.Sizes.{size_of, measure_of}
 use Rattle.measure.specs.Sums.{argument_measures}
 
--- a word's length, as the question tells it
-pub word_there : (ws : Words) (n k : ℕ) → option_map length (slice_get ws n) ≡ Some k → k ≡ length (get_or ws n [])
-word_there [] n k h = absurd (none_some k h)
-word_there (w ∷ ws) zero k h = cc
-word_there (w ∷ ws) (suc n) k h = word_there ws n k h
-
-pub word_missing : (ws : Words) (n : ℕ) → option_map length (slice_get ws n) ≡ None → 0 ≡ length (get_or ws n [])
-word_missing [] n h = refl
-word_missing (w ∷ ws) zero h = absurd (none_some (length w) (sym h))
-word_missing (w ∷ ws) (suc n) h = word_missing ws n h
+-- a word's length, as the question tells it; a word that is not there has none
+pub word_told : (ws : Words) (n : ℕ) → unwrap_or (option_map length (slice_get ws n)) 0 ≡ length (get_or ws n [])
+word_told [] n = refl
+word_told (w ∷ ws) zero = refl
+word_told (w ∷ ws) (suc n) = word_told ws n
 
 -- one word has the size of its bytes
 pub one_word : (w : List ℕ) (n : ℕ) → n ≡ length w → record { words = 1; bytes = n } ≡ size_of (w ∷ [])

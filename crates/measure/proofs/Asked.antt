@@ -1,5 +1,5 @@
 -- The question on a node's rule: its forms, padded to three, are the forms of its arguments, and its symbols keep the law.
-use Rattle.std.proofs.Common.{◌≡◌, ℕ, ◌≤◌, leb, List, [], ◌∷◌, map, length, Some, None, Option, sym, refl, ap, ◌∙◌, subst, arith}
+use Rattle.std.proofs.Common.{◌≡◌, ℕ, ◌≤◌, leb, List, [], ◌∷◌, map, length, Some, None, Option, unwrap_or, sym, refl, ap, ◌∙◌, subst, arith}
 use Rattle.std.specs.List.{slice_get, AllByRecursion}
 use Rattle.std.specs.Option.{option_map}
 use Rattle.std.proofs.lemmas.List.{length-map}
@@ -120,6 +120,13 @@ pub symbol_there : (o : Option (List Symbol)) (i : ℕ) → at o i ≡ slice_get
 symbol_there None i = refl
 symbol_there (Some symbols) i = refl
 
+pub symbol_told : (o : Option (List Symbol)) (i : ℕ) (x : Option Symbol) → x ≡ at o i → slice_get (or_no_symbols o) i ≡ x
+symbol_told o i x told = sym (told ∙ symbol_there o i)
+
 pub symbol_count : (o : Option (List Symbol)) (n : ℕ) → option_map length o ≡ Some n → n ≡ length (or_no_symbols o)
 symbol_count None n h = absurd (none_some n h)
 symbol_count (Some symbols) n h = cc
+
+pub symbols_counted : (o : Option (List Symbol)) (count : Option ℕ) (n : ℕ) → count ≡ option_map length o → n ≡ unwrap_or count 0 → n ≡ length (or_no_symbols o)
+symbols_counted None count n told is = is ∙ ap (λ c. unwrap_or c 0) told
+symbols_counted (Some symbols) count n told is = is ∙ ap (λ c. unwrap_or c 0) told

@@ -1,5 +1,6 @@
 pub mod Asked
 pub mod Adding
+pub mod Mapped
 pub mod Ruled
 pub mod Rows
 pub mod Nodes

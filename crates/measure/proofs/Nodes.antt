@@ -1,25 +1,26 @@
 -- A node's measure, from the row of its arguments.
-use Rattle.std.proofs.Common.{◌≡◌, ℕ, zero, suc, ◌+◌, ◌^◌, ◌≤◌, Bool, true, false, not, ◌&&◌, List, [], ◌∷◌, map, get_or, is_some, Some, None, Option, sym, refl, ap, ◌∙◌, subst, arith}
+use Rattle.std.proofs.Common.{◌≡◌, ℕ, zero, suc, ◌+◌, ◌^◌, ◌≤◌, List, [], ◌∷◌, map, length, get_or, Some, None, Ok, Err, Option, Result, sym, refl, ap, ◌∙◌, subst, arith}
 use Rattle.std.specs.List.{AllByRecursion}
-use Rattle.std.specs.Option.{option_map}
-use Rattle.grammar.proofs.Optional.{none_some}
+use Rattle.std.specs.Option.{ok_or, option_map}
 use Rattle.grammar.specs.declared.signature.Arguments.{Arguments}
-use Rattle.grammar.specs.Languages.{Lawful, Meaning}
-use Rattle.grammar.specs.Linearization.{Said, apply_rule, linearized_all, nothing_said, said_form, said_node}
+use Rattle.grammar.specs.Languages.{Lawful, Meaning, Rule}
+use Rattle.grammar.specs.Linearization.{Said, apply_rule, by_rule, linearized_all, nothing_said, said_form, said_node}
 use Rattle.grammar.specs.Questions.{argument_list, arguments_answer, asked, function_arguments}
 use Rattle.grammar.specs.Signatures.{Signature}
-use Rattle.grammar.specs.Trees.{Tree, Trees, deepest, HaveCategories}
+use Rattle.grammar.specs.Trees.{Tree, Trees, code, deepest, HaveCategories}
 use Rattle.grammar.specs.Trees.Tree.{node}
-use Rattle.saying.specs.Mute.{RowAt}
+use Rattle.saying.specs.Mute.{FirstMuteIn, RowAt}
 use Rattle.saying.proofs.Lengths.{AllBounded, Bounded, power_mono, read_all, trees_bounded}
+use Rattle.saying.proofs.Muteness.{at_root, below, row_not_said}
 use Rattle.saying.proofs.Places.{arguments_at}
 use Rattle.measure.specs.declared.kinds.Measure.{Measure}
+use Rattle.measure.specs.declared.kinds.Muteness.{Muteness}
 use Rattle.measure.specs.declared.kinds.NodeMeasure.{NodeMeasure}
 use Rattle.measure.specs.declared.kinds.Row.{Row}
 use Rattle.measure.specs.declared.table.MeasureTable.{MeasureTable}
-use Rattle.measure.specs.Measured.{is_mute, MeasuredFrom, NodeAt, row_measure}
-use Rattle.measure.specs.Sizes.{constituent_size, forms_said, measure_of, node_measure, padded, row_places}
-use Rattle.measure.specs.Sums.{argument_measures, ArgumentSize, ArgumentSizes}
+use Rattle.measure.specs.Measured.{MeasuredFrom, NodeAt, NodeMeasured, RowMeasured, RowSaid}
+use Rattle.measure.specs.Sizes.{constituent_size, forms_said, measure_of, padded, row_places, SaidAt}
+use Rattle.measure.specs.Sums.{argument_measures, ArgumentSize, ArgumentSizes, measure_forms}
 use Rattle.measure.proofs.Asked.{node_asked}
 
 -- an argument of a tree at most 6 deep has a measure within its bounds
@@ -41,78 +42,74 @@ form_at [] k = refl
 form_at (s ∷ all) zero = refl
 form_at (s ∷ all) (suc k) = form_at all k
 
-abbrev three_forms : ℕ → ℕ → ℕ → List ℕ
-three_forms a b c = a ∷ b ∷ c ∷ []
+forms_padded : (all : List Said) (measures : List Measure) → measures ≡ argument_measures all → measure_forms measures ≡ padded (map said_form all)
+forms_padded all measures same = ap measure_forms same ∙ (λ i. form_at all 0 i ∷ form_at all 1 i ∷ form_at all 2 i ∷ [])
 
-pub forms_padded : (all : List Said) (measures : List Measure) (d : Measure) → measures ≡ argument_measures all → (get_or measures 0 d).form ∷ (get_or measures 1 d).form ∷ (get_or measures 2 d).form ∷ [] ≡ padded (map said_form all)
-forms_padded all measures d same =
-    ap (λ ms. (get_or ms 0 d).form ∷ (get_or ms 1 d).form ∷ (get_or ms 2 d).form ∷ []) same
-    ∙ (λ i. three_forms (form_at all 0 i) (form_at all 1 i) (form_at all 2 i))
-
-mapped_none : {A B : Type 0} (f : A → B) (o : Option A) → None ≡ option_map f o → o ≡ None
-mapped_none f None h = refl
-mapped_none f (Some x) h = absurd (none_some (f x) h)
-
-mapped_some : {A B : Type 0} (f : A → B) (o : Option A) (y : B) → Some y ≡ option_map f o → (x : A) × (o ≡ Some x) × (y ≡ f x)
-mapped_some f None y h = absurd (none_some y (sym h))
-mapped_some f (Some x) y h = (x, refl, let same : y ≡ f x = cc in same)
-
-some_mapped : {A B : Type 0} (f : A → B) (o : Option A) → is_some (option_map f o) ≡ is_some o
-some_mapped f None = refl
-some_mapped f (Some x) = refl
-
-flip : (a b : Bool) → a ≡ not b → b ≡ not a
-flip a true h = sym (ap not h)
-flip a false h = sym (ap not h)
-
-abbrev of_parts : ℕ → List ℕ → List ℕ → Option Measure → NodeMeasure
+abbrev of_parts : ℕ → List ℕ → List ℕ → Result Measure Muteness → NodeMeasure
 of_parts end places forms said = record { end = end; places = places; forms = forms; said = said }
 
 module _ (m : Meaning) (law : Lawful m) (t : Tree) (place f : ℕ) (ts : Trees) (table : MeasureTable) (at : NodeAt m t place f ts table) where
   -- the arguments that the language tells are those of the node, and stand right after it: the row found there is theirs
-  pub row_is : (arguments : Arguments) → Some (argument_list arguments) ≡ arguments_answer m f → (row : Row) → ((l : Meaning) (s : Signature) (u : Tree) (us : Trees) → HaveCategories s (argument_list arguments) us → RowAt u (place + 1) us → MeasuredFrom l u (place + 1) table → row ≡ row_measure l (place + 1) us) → row ≡ row_measure m (place + 1) ts
-  row_is arguments told row found =
-      let of = at.of in
-      let named : Some (argument_list arguments) ≡ Some of.0.arguments = told ∙ ap (option_map function_arguments) of.1 in
-      let same : argument_list arguments ≡ of.0.arguments = cc in
-      let on : suc place ≡ place + 1 = omega arith in
-      found m m.signature t ts
-      (subst (λ cs. HaveCategories m.signature cs ts) (sym same) of.3)
-      (subst (λ k. RowAt t k ts) on (arguments_at t place f ts at.there))
-      (λ i u le here. at.measured i u (omega arith) here)
+  module _ (arguments : Arguments) (told : Some (argument_list arguments) ≡ arguments_answer m f) (row : Row) (found : (l : Meaning) (s : Signature) (u : Tree) (us : Trees) → HaveCategories s (argument_list arguments) us → RowAt u (place + 1) us → MeasuredFrom l u (place + 1) table → RowMeasured l (place + 1) us row) where
+    row_is : RowMeasured m (place + 1) ts row
+    row_is =
+        let of = at.of in
+        let named : Some (argument_list arguments) ≡ Some of.0.arguments = told ∙ ap (option_map function_arguments) of.1 in
+        let same : argument_list arguments ≡ of.0.arguments = cc in
+        let on : suc place ≡ place + 1 = omega arith in
+        found m m.signature t ts
+        (subst (λ cs. HaveCategories m.signature cs ts) (sym same) of.3)
+        (subst (λ k. RowAt t k ts) on (arguments_at t place f ts at.there))
+        (λ i u le here. at.measured i u (omega arith) here)
 
-  -- the node's end and its arguments' places are the row's
-  row_end : (row : Row) → row ≡ row_measure m (place + 1) ts → row.end ≡ (node_measure m place (node f ts)).end
-  row_end row is = let end = ap (λ (r : Row). r.end) is in omega arith
+    places_row : row.places ≡ padded (row_places (suc place) ts)
+    places_row = let on : place + 1 ≡ suc place = omega arith in let is = row_is in is.places ∙ ap (λ k. padded (row_places k ts)) on
 
-  places_row : (row : Row) → row ≡ row_measure m (place + 1) ts → row.places ≡ (node_measure m place (node f ts)).places
-  places_row row is =
-      let on : place + 1 ≡ suc place = omega arith in ap (λ (r : Row). r.places) is ∙ ap (λ k. padded (row_places k ts)) on
+    end_row : row.end ≡ place + length (code (node f ts))
+    end_row = let is = row_is in omega (arith, is.end)
 
-  -- what is told of the node, by what is said of its arguments
-  abbrev told_by : Option (List Said) → NodeMeasure × Bool
-  told_by o =
-      (of_parts (node_measure m place (node f ts)).end (node_measure m place (node f ts)).places (padded (forms_said o)) (option_map measure_of (said_node m f o)), is_some o && not (is_some (said_node m f o)))
+    -- where an argument has a mute node, the first of these is the node's
+    pub silent_node : (k : Muteness) → row.said ≡ Err k → NodeMeasured m place f ts (of_parts row.end row.places (0 ∷ 0 ∷ 0 ∷ []) (Err k))
+    silent_node k gone =
+        let is = row_is in
+        let mute : RowSaid m (place + 1) ts (Err k) = subst (RowSaid m (place + 1) ts) gone is.said in
+        record {
+          end = end_row;
+          places = places_row;
+          forms = unsaid mute.0 mute.1 (linearized_all m ts) refl;
+          said = (suc mute.0, below m f ts mute.0 mute.1, omega (arith, mute.2));
+        }
+      where
+        unsaid : (i : ℕ) → FirstMuteIn m ts i → (o : Option (List Said)) → linearized_all m ts ≡ o → 0 ∷ 0 ∷ 0 ∷ [] ≡ padded (forms_said o)
+        unsaid i mute None e = refl
+        unsaid i mute (Some all) e = absurd (row_not_said m ts i mute all e)
 
-  -- without a linearization of its arguments the node has none, and is not mute
-  pub silent_node : (row : Row) → row ≡ row_measure m (place + 1) ts → row.said ≡ None → ◌≡◌ {A = NodeMeasure × Bool} (of_parts row.end row.places (0 ∷ 0 ∷ 0 ∷ []) None, false) (node_measure m place (node f ts), is_mute m (node f ts))
-  silent_node row is gone =
-      let unsaid : linearized_all m ts ≡ None = mapped_none argument_measures (linearized_all m ts) (sym gone ∙ ap (λ (r : Row). r.said) is) in
-      (λ i. (of_parts (row_end row is i) (places_row row is i) (0 ∷ 0 ∷ 0 ∷ []) None, false)) ∙ ap told_by (sym unsaid)
+    -- else the arguments have these measures, which are small
+    module _ (ms : List Measure) (there : row.said ≡ Ok ms) where
+      row_said : RowSaid m (place + 1) ts (Ok ms)
+      row_said = let is = row_is in subst (RowSaid m (place + 1) ts) there is.said
 
-  -- what the row says of the arguments
-  pub row_said : (row : Row) → row ≡ row_measure m (place + 1) ts → (measures : List Measure) → row.said ≡ Some measures → (all : List Said) × (linearized_all m ts ≡ Some all) × (measures ≡ argument_measures all)
-  row_said row is measures there =
-      mapped_some argument_measures (linearized_all m ts) measures (sym there ∙ ap (λ (r : Row). r.said) is)
+      pub small_arguments : ArgumentSizes ms
+      small_arguments =
+          let said = row_said in
+          let deep = at.deep in
+          subst ArgumentSizes (sym said.2) (argument_bounded ts said.0 (omega arith) (trees_bounded ts m law said.0 said.1))
 
-  pub row_sizes : (all : List Said) → linearized_all m ts ≡ Some all → ArgumentSizes (argument_measures all)
-  row_sizes all e = let deep = at.deep in argument_bounded ts all (omega arith) (trees_bounded ts m law all e)
+      key : asked m f (measure_forms ms) ≡ Some (map said_form row_said.0)
+      key =
+          let said = row_said in
+          let of = at.of in
+          ap (asked m f) (forms_padded said.0 ms said.2) ∙ node_asked m law f ts of.0 said.0 of.1 of.3 said.1
 
-  pub row_key : (all : List Said) (forms : List ℕ) → linearized_all m ts ≡ Some all → forms ≡ padded (map said_form all) → asked m f forms ≡ Some (map said_form all)
-  row_key all forms e same = let of = at.of in ap (asked m f) same ∙ node_asked m law f ts of.0 all of.1 of.3 e
-
-  -- with them the node has what its rule makes of them, and is mute where there is none
-  pub said_node_measure : (row : Row) → row ≡ row_measure m (place + 1) ts → (all : List Said) → linearized_all m ts ≡ Some all → (forms : List ℕ) (said : Option Measure) (mute : Bool) → forms ≡ padded (map said_form all) → said ≡ option_map measure_of (apply_rule m all (m.rule f (map said_form all))) → is_some said ≡ not mute → ◌≡◌ {A = NodeMeasure × Bool} (of_parts row.end row.places forms said, mute) (node_measure m place (node f ts), is_mute m (node f ts))
-  said_node_measure row is all e forms said mute same by_rule test =
-      let silent : mute ≡ not (is_some (apply_rule m all (m.rule f (map said_form all)))) = flip (is_some said) mute test ∙ ap (λ o. not (is_some o)) by_rule ∙ ap not (some_mapped measure_of (apply_rule m all (m.rule f (map said_form all)))) in
-      (λ i. (of_parts (row_end row is i) (places_row row is i) (same i) (by_rule i), silent i)) ∙ ap told_by (sym e)
+      -- and the node has what its rule makes of them, or is mute where there is none
+      pub ruled_node : (forms : List ℕ) (made : Option Measure) (said : Result Measure Muteness) → forms ≡ measure_forms ms → ((all : List Said) → ms ≡ argument_measures all → asked m f forms ≡ Some (map said_form all) → made ≡ option_map measure_of (apply_rule m all (m.rule f (map said_form all)))) → said ≡ ok_or made record { node = place } → NodeMeasured m place f ts (of_parts row.end row.places forms said)
+      ruled_node forms made said same rule is = record {
+        end = end_row;
+        places = places_row;
+        forms = same ∙ forms_padded row_said.0 ms row_said.2 ∙ ap (λ q. padded (forms_said q)) (sym row_said.1);
+        said = subst (SaidAt m place (node f ts)) (sym (is ∙ ap (λ q. ok_or q record { node = place }) (rule row_said.0 row_said.2 (ap (asked m f) same ∙ key)))) (by (m.rule f (map said_form row_said.0)) refl);
+      }
+        where
+          by : (r : Option Rule) → m.rule f (map said_form row_said.0) ≡ r → SaidAt m place (node f ts) (ok_or (option_map measure_of (apply_rule m row_said.0 r)) record { node = place })
+          by None k = (0, at_root m f ts row_said.0 row_said.1 k, omega arith)
+          by (Some r) k = (by_rule m row_said.0 r, ap (said_node m f) row_said.1 ∙ ap (apply_rule m row_said.0) k, refl)

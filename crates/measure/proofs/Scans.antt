@@ -1,24 +1,26 @@
--- The scan from the right: one node more, and the first mute node among those met.
-use Rattle.std.proofs.Common.{◌≡◌, ℕ, zero, suc, ◌+◌, ◌-◌, ◌*◌, ◌<◌, ◌≤◌, Bool, true, false, not, ◌&&◌, List, map, length, get_or, set, is_some, Some, None, Option, sym, refl, ap, ◌∙◌, subst, ⊎_elim, mul-le-mul_right, arith, length-append}
+-- The scan from the right: one node more, and what is then told of the whole tree.
+use Rattle.std.proofs.Common.{◌≡◌, ℕ, zero, suc, ◌+◌, ◌-◌, ◌*◌, ◌<◌, ◌≤◌, List, length, get_or, set, Some, Err, sym, ap, ◌∙◌, subst, ⊎_elim, mul-le-mul_right, arith, length-append}
 use Rattle.std.specs.List.{slice_get}
 use Rattle.std.proofs.lemmas.List.{get_or-set_other, get_or-set_same}
-use Rattle.std.proofs.lemmas.Bool.{cases_lt, false≢true}
-use Rattle.grammar.proofs.Optional.{none_some}
-use Rattle.grammar.specs.Languages.{FunctionLawful, Lawful, Meaning, Rule}
-use Rattle.grammar.specs.Linearization.{Said, apply_rule, linearized, linearized_all, said_form, said_node}
+use Rattle.std.proofs.lemmas.Bool.{cases_lt}
+use Rattle.grammar.specs.Languages.{FunctionLawful, Lawful, Meaning}
 use Rattle.grammar.specs.Trees.{Tree, Trees, code, codes, depth, deepest, HasCategory, HaveCategories}
 use Rattle.grammar.specs.Trees.Tree.{node}
 use Rattle.grammar.specs.Trees.Trees.{none, more}
 use Rattle.draft.specs.Walks.{most}
-use Rattle.saying.specs.Mute.{At, FirstMute, MuteNode}
-use Rattle.saying.proofs.Muteness.{said_or_mute, at_within}
-use Rattle.saying.proofs.Places.{at_byte, at_category, at_depth, at_one, at_some}
+use Rattle.saying.specs.Mute.{At, FirstMute}
+use Rattle.saying.proofs.Muteness.{at_within}
+use Rattle.saying.proofs.Places.{at_byte, at_category, at_depth, at_one, at_some, at_start}
+use Rattle.tree.specs.declared.code.TreeCode.{TreeCode}
 use Rattle.tree.specs.Codes.{IsTree}
+use Rattle.tree.specs.Read.{bytes_of, tree_signature}
+use Rattle.tree.proofs.Filled.{code_is_tree}
+use Rattle.measure.specs.declared.kinds.Muteness.{Muteness}
 use Rattle.measure.specs.declared.kinds.NodeMeasure.{NodeMeasure}
 use Rattle.measure.specs.declared.table.MeasureTable.{MeasureTable}
-use Rattle.measure.specs.Measured.{is_mute, measures, MeasuredFrom, NodeAt}
-use Rattle.measure.specs.Scanned.{Scanned}
-use Rattle.measure.specs.Sizes.{node_measure, unmeasured}
+use Rattle.measure.specs.Measured.{Measured, measured_at, MeasureOf, measures, MeasuredFrom, NodeAt, NodeMeasured}
+use Rattle.measure.specs.Sizes.{SaidAt, unmeasured}
+use Rattle.measure.proofs.Rows.{measure_said}
 use Rattle.grammar.proofs.Nth.{all_nth}
 
 -- a code has at most as many bytes as its depth allows
@@ -39,32 +41,12 @@ mutual
       omega (arith, length-append (code t) (codes ts))
 
 -- so each place of a code is one of the table
-pub place_within : (m : Meaning) → Lawful m → (bytes : List ℕ) (t : Tree) → IsTree m.signature bytes t → (place : ℕ) → place < length bytes → place < 364
+place_within : (m : Meaning) → Lawful m → (bytes : List ℕ) (t : Tree) → IsTree m.signature bytes t → (place : ℕ) → place < length bytes → place < 364
 place_within m law bytes t is place lt = omega (arith, code_most t m law m.signature.start 6 is.start is.within, ap length is.coded)
 
--- the test tells the mute nodes
-mute_tested : (m : Meaning) (u : Tree) → is_mute m u ≡ true → MuteNode m u
-mute_tested m (node f ts) h = by (linearized_all m ts) refl h
-  where
-    of_rule : (all : List Said) → linearized_all m ts ≡ Some all → (o : Option Rule) → m.rule f (map said_form all) ≡ o → not (is_some (apply_rule m all o)) ≡ true → MuteNode m (node f ts)
-    of_rule all e None r k = (all, e, r)
-    of_rule all e (Some x) r k = absurd (false≢true k)
-
-    by : (o : Option (List Said)) → linearized_all m ts ≡ o → (is_some o && not (is_some (said_node m f o))) ≡ true → MuteNode m (node f ts)
-    by None e k = absurd (false≢true k)
-    by (Some all) e k = of_rule all e (m.rule f (map said_form all)) refl k
-
-mute_told : (m : Meaning) (u : Tree) → MuteNode m u → is_mute m u ≡ true
-mute_told m (node f ts) q =
-    ap (λ o. is_some o && not (is_some (said_node m f o))) q.1 ∙ ap (λ o. not (is_some (apply_rule m q.0 o))) q.2
-
-abbrev pub noted : Bool → ℕ → Option ℕ → Option ℕ
-noted true place mute = Some place
-noted false place mute = mute
-
-module _ (m : Meaning) (law : Lawful m) (bytes : List ℕ) (t : Tree) (is : IsTree m.signature bytes t) (place : ℕ) (table : MeasureTable) (mute : Option ℕ) (so_far : Scanned m t (suc place) table mute) where
+module _ (m : Meaning) (law : Lawful m) (bytes : List ℕ) (t : Tree) (is : IsTree m.signature bytes t) (place : ℕ) (table : MeasureTable) (so_far : MeasuredFrom m t (suc place) table) where
   -- the node that stands at the place
-  pub node_there : (f : ℕ) → place < length bytes → Some f ≡ slice_get bytes place → (ts : Trees) × NodeAt m t place f ts table
+  node_there : (f : ℕ) → place < length bytes → Some f ≡ slice_get bytes place → (ts : Trees) × NodeAt m t place f ts table
   node_there f lt told = by found.0 found.1
     where
       found : (u : Tree) × At t place u
@@ -82,81 +64,55 @@ module _ (m : Meaning) (law : Lawful m) (bytes : List ℕ) (t : Tree) (is : IsTr
               category = of.0;
               of = of.1;
               deep = omega (arith, at_depth t place (node f ts) there, is.within);
-              measured = so_far.measured;
+              measured = so_far;
             },
           )
 
   -- one node more
-  pub scanned_more : (f : ℕ) (ts : Trees) → NodeAt m t place f ts table → (n : NodeMeasure) (silent : Bool) (after : MeasureTable) → ◌≡◌ {A = NodeMeasure × Bool} (n, silent) (node_measure m place (node f ts), is_mute m (node f ts)) → measures after ≡ set (measures table) place n → Scanned m t place after (noted silent place mute)
-  scanned_more f ts at n silent after told put = by silent tested
+  measured_more : (f : ℕ) (ts : Trees) → NodeAt m t place f ts table → (n : NodeMeasure) (after : MeasureTable) → NodeMeasured m place f ts n → measures after ≡ set (measures table) place n → MeasuredFrom m t place after
+  measured_more f ts at n after told put i u le here =
+      ⊎_elim
+      (λ past. subst (MeasureOf m i u) (sym (ap (λ ns. get_or ns i unmeasured) put ∙ get_or-set_other (measures table) place i n unmeasured (omega arith))) (so_far i u past here))
+      (λ at_place.
+      let same : place ≡ i = omega arith in
+      let stands : measured_at after place ≡ n = ap (λ ns. get_or ns place unmeasured) put ∙ get_or-set_same (measures table) place n unmeasured (omega (arith, table.sized, within)) in
+      let one : node f ts ≡ u = at_one t place (node f ts) u at.there (subst (λ k. At t k u) (sym same) here) in
+      subst (λ k. MeasureOf m k u (measured_at after k)) same (subst (λ v. MeasureOf m place v (measured_at after place)) one (subst (NodeMeasured m place f ts) (sym stands) told)))
+      (cases_lt place i)
     where
       within : place < 364
       within = place_within m law bytes t is place (omega (arith, at_within t place (node f ts) at.there, ap length is.coded))
 
-      node_is : n ≡ node_measure m place (node f ts)
-      node_is = ap (λ (p : NodeMeasure × Bool). p.0) told
+-- the scan of a code at place p is about to read the byte before it
+module _ (m : Meaning) (law : Lawful m) (tree : TreeCode) (p : ℕ) (table : MeasureTable) (so_far : (t : Tree) → IsTree m.signature (bytes_of tree) t → MeasuredFrom m t p table) (some : 0 < p) (inside : p ≤ length (bytes_of tree)) where
+  before : (t : Tree) → IsTree m.signature (bytes_of tree) t → MeasuredFrom m t (suc (p - 1)) table
+  before t is = let on : p ≡ suc (p - 1) = omega arith in subst (λ k. MeasuredFrom m t k table) on (so_far t is)
 
-      tested : silent ≡ is_mute m (node f ts)
-      tested = ap (λ (p : NodeMeasure × Bool). p.1) told
+  the_tree : tree_signature tree ≡ m.signature → (t : Tree) × IsTree m.signature (bytes_of tree) t
+  the_tree same = let sound = code_is_tree tree in (sound.0, subst (λ s. IsTree s (bytes_of tree) sound.0) same sound.1)
 
-      measured : MeasuredFrom m t place after
-      measured i u le here = ⊎_elim
-          (λ past. ap (λ ns. get_or ns i unmeasured) put ∙ get_or-set_other (measures table) place i n unmeasured (omega arith) ∙ so_far.measured i u past here)
-          (λ at_place. let same : i ≡ place = omega arith in let there = subst (λ k. At t k u) same here in
-          ap (λ ns. get_or ns i unmeasured) put ∙ ap (λ k. get_or (set (measures table) place n) k unmeasured) same ∙ get_or-set_same (measures table) place n unmeasured (omega (arith, table.sized, within)) ∙ node_is
-          ∙ ap (node_measure m place) (at_one t place (node f ts) u at.there there) ∙ ap (λ k. node_measure m k u) (sym same))
-          (cases_lt place i)
+  pub place_fits : tree_signature tree ≡ m.signature → p - 1 < 364
+  place_fits same = let whole = the_tree same in place_within m law (bytes_of tree) whole.0 whole.1 (p - 1) (omega arith)
 
-      by : (s : Bool) → s ≡ is_mute m (node f ts) → Scanned m t place after (noted s place mute)
-      by true e = record {
-        measured = measured;
-        found = λ i h. let same : place ≡ i = cc in (node f ts, subst (λ k. At t k (node f ts)) same at.there, mute_tested m (node f ts) (sym e), omega arith);
-        first = λ i u le here q. (place, refl, le);
-      }
-      by false e = record {
-        measured = measured;
-        found = λ i h. let p = so_far.found i h in (p.0, p.1, p.2, omega (arith, p.3));
-        first = λ i u le here q. ⊎_elim
-            (λ past. so_far.first i u past here q)
-            (λ at_place. let same : i ≡ place = omega arith in let there = subst (λ k. At t k u) same here in
-            absurd (false≢true (e ∙ ap (is_mute m) (at_one t place (node f ts) u at.there there) ∙ mute_told m u q)))
-            (cases_lt place i);
-      }
+  module _ (f : ℕ) (told : Some f ≡ slice_get (bytes_of tree) (p - 1)) where
+    pub next_node : tree_signature tree ≡ m.signature → (t : Tree) × (ts : Trees) × NodeAt m t (p - 1) f ts table
+    next_node same =
+        let whole = the_tree same in
+        let there = node_there m law (bytes_of tree) whole.0 whole.1 (p - 1) table (before whole.0 whole.1) f (omega arith) told in
+        (whole.0, there.0, there.1)
 
--- the scan at place p is about to read the byte before it
-module _ (m : Meaning) (law : Lawful m) (bytes : List ℕ) (t : Tree) (is : IsTree m.signature bytes t) (p : ℕ) (table : MeasureTable) (mute : Option ℕ) (so_far : Scanned m t p table mute) (some : 0 < p) (inside : p ≤ length bytes) (f : ℕ) (told : Some f ≡ slice_get bytes (p - 1)) where
-  before : Scanned m t (suc (p - 1)) table mute
-  before = let on : p ≡ suc (p - 1) = omega arith in subst (λ k. Scanned m t k table mute) on so_far
+    pub one_node_more : (n : NodeMeasure) (after : MeasureTable) → ((u : Tree) (us : Trees) → NodeAt m u (p - 1) f us table → NodeMeasured m (p - 1) f us n) → measures after ≡ set (measures table) (p - 1) n → (t : Tree) → IsTree m.signature (bytes_of tree) t → MeasuredFrom m t (p - 1) after
+    one_node_more n after found put t is =
+        let there = node_there m law (bytes_of tree) t is (p - 1) table (before t is) f (omega arith) told in
+        measured_more m law (bytes_of tree) t is (p - 1) table (before t is) f there.0 there.1 n after (found t there.0 there.1) put
 
-  pub next_node : (ts : Trees) × NodeAt m t (p - 1) f ts table
-  next_node = node_there m law bytes t is (p - 1) table mute before f (omega arith) told
+-- nothing is measured yet
+pub measured_none : (m : Meaning) (bytes : List ℕ) (t : Tree) → IsTree m.signature bytes t → (table : MeasureTable) → MeasuredFrom m t (length bytes) table
+measured_none m bytes t is table i u le here = absurd (omega (arith, at_within t i u here, ap length is.coded))
 
-  pub one_node_more : (n : NodeMeasure) (silent : Bool) (after : MeasureTable) → ((u : Tree) (us : Trees) → NodeAt m u (p - 1) f us table → ◌≡◌ {A = NodeMeasure × Bool} (n, silent) (node_measure m (p - 1) (node f us), is_mute m (node f us))) → measures after ≡ set (measures table) (p - 1) n → Scanned m t (p - 1) after (noted silent (p - 1) mute)
-  one_node_more n silent after found put =
-      scanned_more m law bytes t is (p - 1) table mute before f next_node.0 next_node.1 n silent after (found t next_node.0 next_node.1) put
+-- what the table tells of the whole tree
+pub whole_told : (m : Meaning) (t : Tree) (table : MeasureTable) (n : NodeMeasure) → Measured m t table → n ≡ measured_at table 0 → SaidAt m 0 t n.said
+whole_told m t table n measured is = measure_said m 0 t n (subst (MeasureOf m 0 t) (sym is) (measured 0 t (at_start t)))
 
--- nothing is scanned yet
-pub scanned_none : (m : Meaning) (bytes : List ℕ) (t : Tree) → IsTree m.signature bytes t → (table : MeasureTable) → Scanned m t (length bytes) table None
-scanned_none m bytes t is table = record {
-  measured = λ i u le here. absurd (omega (arith, at_within t i u here, ap length is.coded));
-  found = λ i h. absurd (none_some i h);
-  first = λ i u le here q. absurd (omega (arith, at_within t i u here, ap length is.coded));
-}
-
--- what is found at the end
-pub mute_first : (m : Meaning) (t : Tree) (table : MeasureTable) (i : ℕ) → Scanned m t 0 table (Some i) → FirstMute m t i
-mute_first m t table i all =
-    let p = all.found i refl in
-    record {
-      subtree = p.0;
-      there = p.1;
-      mute = p.2;
-      none_before = λ j u lt here q. let k = all.first j u (omega arith) here q in let same : i ≡ k.0 = cc k.1 in omega (arith, k.2, same);
-    }
-
-pub none_mute : (m : Meaning) (t : Tree) (table : MeasureTable) → Scanned m t 0 table None → (said : Said) × (linearized m t ≡ Some said)
-none_mute m t table all =
-    ⊎_elim
-    (λ p. p)
-    (λ p. let k = all.first p.0 p.1.subtree (omega arith) p.1.there p.1.mute in absurd (none_some k.0 k.1))
-    (said_or_mute m t)
+pub whole_mute : (m : Meaning) (t : Tree) (k : Muteness) → SaidAt m 0 t (Err k) → FirstMute m t k.node
+whole_mute m t k (i, mute, at) = let same : i ≡ k.node = omega (arith, at) in subst (FirstMute m t) same mute

@@ -1,22 +1,16 @@
--- What the scan of a code from the right has found from a place on, and what measuring a tree answers.
-use Rattle.std.specs.Prelude.{◌≡◌, ℕ, ◌≤◌, Some, Ok, Err, Option, Result}
+-- What measuring a tree answers: its table, or why it is not said.
+use Rattle.std.specs.Prelude.{◌≡◌, Some, Ok, Err, Result}
 use Rattle.fault.specs.declared.kinds.SayFault.{SayFault}
 use Rattle.fault.specs.declared.kinds.SayFault.TheVariants.{OtherSignature, Mute, NoRoom}
 use Rattle.grammar.specs.Languages.{Meaning}
 use Rattle.grammar.specs.Linearization.{Said, linearized}
 use Rattle.grammar.specs.Trees.{Tree}
-use Rattle.saying.specs.Mute.{At, FirstMute, MuteNode}
+use Rattle.saying.specs.Mute.{FirstMute}
 use Rattle.tree.specs.declared.code.TreeCode.{TreeCode}
 use Rattle.tree.specs.Codes.{IsTree}
 use Rattle.tree.specs.Read.{bytes_of, tree_signature}
 use Rattle.measure.specs.declared.table.MeasureTable.{MeasureTable}
-use Rattle.measure.specs.Measured.{Measured, MeasuredFrom}
-
--- every node from place j on is measured, and `mute` is the first mute one among them, if there is one
-pub record Scanned (m : Meaning) (t : Tree) (j : ℕ) (table : MeasureTable) (mute : Option ℕ) : Type 0 where
-  pub measured : MeasuredFrom m t j table
-  pub found : (i : ℕ) → mute ≡ Some i → (u : Tree) × At t i u × MuteNode m u × (j ≤ i)
-  pub first : (i : ℕ) (u : Tree) → j ≤ i → At t i u → MuteNode m u → (k : ℕ) × (mute ≡ Some k) × (k ≤ i)
+use Rattle.measure.specs.Measured.{Measured}
 
 -- the table of the tree's measures, where the tree has a linearization; or why it is not said
 abbrev pub MeasuredAs : Meaning → TreeCode → Result MeasureTable SayFault → Type 0

@@ -1,14 +1,14 @@
 -- Measures: what a tree comes to in a language, its words told by their numbers alone.
-use Rattle.std.specs.Prelude.{ℕ, suc, ◌+◌, List, [], ◌∷◌, map, length, Some, None, Option, slice_index, slice_index_or}
-use Rattle.std.specs.Option.{option_map}
+use Rattle.std.specs.Prelude.{◌≡◌, ℕ, ◌+◌, List, [], ◌∷◌, map, length, Some, None, Ok, Err, Option, Result, slice_index, slice_index_or}
 use Rattle.grammar.specs.Languages.{Meaning, Words}
-use Rattle.grammar.specs.Linearization.{Said, linearized, linearized_all, said_form}
+use Rattle.grammar.specs.Linearization.{Said, linearized, said_form}
 use Rattle.grammar.specs.Trees.{Tree, Trees, code}
-use Rattle.grammar.specs.Trees.Tree.{node}
 use Rattle.grammar.specs.Trees.Trees.{none, more}
+use Rattle.saying.specs.Mute.{FirstMute}
 use Rattle.saying.specs.Sizes.{spelled_bytes}
 use Rattle.measure.specs.declared.kinds.Size.{Size}
 use Rattle.measure.specs.declared.kinds.Measure.{Measure}
+use Rattle.measure.specs.declared.kinds.Muteness.{Muteness}
 use Rattle.measure.specs.declared.kinds.NodeMeasure.{NodeMeasure}
 
 -- how many words a string has, and how many bytes these have, blanks left out
@@ -39,15 +39,11 @@ abbrev pub forms_said : Option (List Said) → List ℕ
 forms_said None = []
 forms_said (Some all) = map said_form all
 
--- of the node at place j of a code: where the code of its tree ends, the places and the forms of its arguments, and its measure, if it has a linearization
-abbrev pub node_measure : Meaning → ℕ → Tree → NodeMeasure
-node_measure m j (node f ts) = record {
-  end = j + length (code (node f ts));
-  places = padded (row_places (suc j) ts);
-  forms = padded (forms_said (linearized_all m ts));
-  said = option_map measure_of (linearized m (node f ts));
-}
+-- what is told of the tree whose code begins at place j: its measure, where it has a linearization, or its first mute node
+abbrev pub SaidAt : Meaning → ℕ → Tree → Result Measure Muteness → Type 0
+SaidAt m j t (Ok measure) = (s : Said) × (linearized m t ≡ Some s) × (measure ≡ measure_of s)
+SaidAt m j t (Err muteness) = (i : ℕ) × FirstMute m t i × (muteness.node ≡ j + i)
 
--- what stands at a place that holds no node
+-- what stands at a place that holds no node: no measure
 abbrev pub unmeasured : NodeMeasure
-unmeasured = record { end = 0; places = 0 ∷ 0 ∷ 0 ∷ []; forms = 0 ∷ 0 ∷ 0 ∷ []; said = None }
+unmeasured = record { end = 0; places = 0 ∷ 0 ∷ 0 ∷ []; forms = 0 ∷ 0 ∷ 0 ∷ []; said = Err (record { node = 0 }) }

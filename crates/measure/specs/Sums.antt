@@ -1,5 +1,5 @@
 -- What a rule makes of the sizes of its arguments.
-use Rattle.std.specs.Prelude.{ℕ, ◌<◌, ◌≤◌, List, [], ◌∷◌, Some, None, Option, slice_index_or}
+use Rattle.std.specs.Prelude.{ℕ, ◌<◌, ◌≤◌, List, [], ◌∷◌, map, Some, None, Ok, Err, Option, Result, slice_index_or}
 use Rattle.std.specs.List.{flat_map, AllByRecursion}
 use Rattle.grammar.specs.declared.symbol.Symbol.{Symbol}
 use Rattle.grammar.specs.declared.symbol.Symbol.TheVariants.{Word, Reference}
@@ -7,6 +7,7 @@ use Rattle.grammar.specs.Languages.{Meaning, Words}
 use Rattle.grammar.specs.Linearization.{Said, nothing_said, symbol_words}
 use Rattle.grammar.specs.Questions.{sequence_answer}
 use Rattle.measure.specs.declared.kinds.Measure.{Measure}
+use Rattle.measure.specs.declared.kinds.Muteness.{Muteness}
 use Rattle.measure.specs.declared.kinds.Size.{Size}
 use Rattle.measure.specs.Sizes.{measure_of}
 
@@ -14,6 +15,9 @@ use Rattle.measure.specs.Sizes.{measure_of}
 abbrev pub argument_measures : List Said → List Measure
 argument_measures all =
     measure_of (slice_index_or all 0 nothing_said) ∷ measure_of (slice_index_or all 1 nothing_said) ∷ measure_of (slice_index_or all 2 nothing_said) ∷ []
+
+abbrev pub measure_forms : List Measure → List ℕ
+measure_forms ms = map (λ (m : Measure). m.form) ms
 
 -- the size of a constituent of an argument of a tree at most 6 deep: 8 ^ 5 words of at most 24 bytes
 abbrev pub ArgumentSize : Size → Type 0
@@ -35,9 +39,9 @@ or_no_symbols (Some symbols) = symbols
 abbrev pub sequence_words : Meaning → List Said → ℕ → List ℕ → ℕ → Words
 sequence_words m all f forms k = flat_map (symbol_words m all) (or_no_symbols (sequence_answer m f forms k))
 
--- three measures, if each is there
-abbrev pub all_three : Option Measure → Option Measure → Option Measure → Option (List Measure)
-all_three None second third = None
-all_three (Some a) None third = None
-all_three (Some a) (Some b) None = None
-all_three (Some a) (Some b) (Some c) = Some (a ∷ b ∷ c ∷ [])
+-- three measures, or the first mute node that is told in place of one
+abbrev pub all_three : Result Measure Muteness → Result Measure Muteness → Result Measure Muteness → Result (List Measure) Muteness
+all_three (Err muteness) second third = Err muteness
+all_three (Ok a) (Err muteness) third = Err muteness
+all_three (Ok a) (Ok b) (Err muteness) = Err muteness
+all_three (Ok a) (Ok b) (Ok c) = Ok (a ∷ b ∷ c ∷ [])

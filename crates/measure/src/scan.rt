@@ -3,7 +3,8 @@ ghost use Rattle.std.specs.Prelude.{◌≡◌};
 ghost use Rattle.grammar.specs.Trees.{Tree};
 ghost use Rattle.tree.specs.Codes.{IsTree};
 ghost use Rattle.tree.specs.Read.{bytes_of, tree_signature};
-ghost use Rattle.measure.specs.Scanned.{MeasuredAs, Scanned};
+ghost use Rattle.measure.specs.Measured.{Measured};
+ghost use Rattle.measure.specs.Scanned.{MeasuredAs};
 
 use crate::node::node_at;
 use crate::table::MeasureTable;
@@ -11,22 +12,19 @@ use fault::kinds::SayFault;
 use grammar::language::Language;
 use tree::code::TreeCode;
 
-// Measures each node, the last one first, and answers the first mute node.
-fn scan<L: Language>(tree: &TreeCode, language: &L, table: &mut MeasureTable) -> Option<usize>
+// The measure of each node, the last one found first.
+fn scan<L: Language>(tree: &TreeCode, language: &L) -> MeasureTable
     requires { tree_signature tree.now ≡ (L.meaning language.now).signature }
-    ensures { (t : Tree) → IsTree (L.meaning language.now).signature (bytes_of tree.now) t → Scanned (L.meaning language.now) t 0 table.new result }
+    ensures { (t : Tree) → IsTree (L.meaning language.now).signature (bytes_of tree.now) t → Measured (L.meaning language.now) t result }
 {
-    let mut mute = None;
+    let mut table = MeasureTable::new();
+    // By the place, at which the table is filled: an iterator over bytes and places says the same in more words.
     for place in (0..tree.len()).rev() {
         if let Some(function) = tree.byte(place) {
-            let (node, is_mute) = node_at(language, table, place, function);
-            table.put(place, node);
-            if is_mute {
-                mute = Some(place);
-            }
+            table.put(place, node_at(language, &table, place, function));
         }
     }
-    mute
+    table
 }
 
 // The measures of the tree's nodes in the language; refused where the language has another signature, or a node is mute.
@@ -36,9 +34,7 @@ pub fn measure<L: Language>(tree: &TreeCode, language: &L) -> Result<MeasureTabl
     if !tree.is_of(language) {
         return Err(SayFault::OtherSignature);
     }
-    let mut table = MeasureTable::new();
-    match scan(tree, language, &mut table) {
-        Some(node) => Err(SayFault::Mute { node }),
-        None => Ok(table),
-    }
+    let table = scan(tree, language);
+    table.at(0).said?;
+    Ok(table)
 }

@@ -1,5 +1,6 @@
 -- What a notation answers of its rules: the forms that a question names, and the rule that it comes to.
-use Rattle.std.specs.Prelude.{◌≡◌, ℕ, zero, suc, ◌≤◌, Bool, true, false, cond, ◌&&◌, List, [], ◌∷◌, length, is_some, Some, None, Option, ◌==◌, nat_le, slice_index, refl}
+use lib.Pointwise.{pointwise}
+use Rattle.std.specs.Prelude.{◌≡◌, ℕ, zero, suc, ◌≤◌, Bool, true, false, cond, ◌&&◌, List, [], ◌∷◌, length, is_some, Some, None, Option, ◌==◌, nat_eq, nat_le, replicate, slice_index, refl}
 use Rattle.std.proofs.Common.{sym, ap, ◌∙◌, ⊎_elim, arith}
 use Rattle.std.specs.List.{slice_get}
 use Rattle.std.specs.Option.{option_map}
@@ -94,6 +95,13 @@ three_within n forms long = ap (within n) (three forms long) ∙ is_within n for
 
 pub three_zero : (forms : List ℕ) → length forms ≡ 3 → all_zero (slice_index forms 0 ∷ slice_index forms 1 ∷ slice_index forms 2 ∷ []) ≡ all_zero forms
 three_zero forms long = ap all_zero (three forms long)
+
+-- a list is all 0 where it equals as many 0s
+pub all_are_zero : (forms : List ℕ) (n : ℕ) → length forms ≡ n → pointwise nat_eq forms (replicate n 0) ≡ all_zero forms
+all_are_zero [] zero long = refl
+all_are_zero [] (suc n) long = absurd (omega (arith, long))
+all_are_zero (k ∷ ks) zero long = absurd (omega (arith, long))
+all_are_zero (k ∷ ks) (suc n) long = ap (λ b. (k == 0) && b) (all_are_zero ks n (omega (arith, long)))
 
 -- a rule has one sequence
 one_sequence : (b : Bool) (count f : ℕ) (arguments : List ℕ) (k : ℕ) → sequence_at (Some (cond b (Some (written_rule count f arguments)) None)) k ≡ cond (b && k == 0) (Some (written count f arguments)) None

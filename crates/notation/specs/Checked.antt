@@ -1,7 +1,8 @@
 -- The test of a signature decides its law, function by function.
-use Rattle.std.specs.Prelude.{◌≡◌, ℕ, ◌+◌, ◌<◌, ◌≤◌, ◌&&◌, map, length, drop, Some, None, Decides, ◌≢◌, nat_le, nat_lt, refl}
+use Rattle.std.specs.Prelude.{◌≡◌, ℕ, zero, suc, ◌+◌, ◌<◌, ◌≤◌, ◌&&◌, List, [], ◌∷◌, map, length, drop, Some, None, Option, Decides, ◌≢◌, nat_le, nat_lt, refl}
 use Rattle.std.proofs.Common.{sym, ap, ◌∙◌, add-one, arith}
-use Rattle.std.specs.List.{slice_get}
+use Rattle.std.specs.List.{slice_get, list_all, range_with_len}
+use Rattle.std.proofs.lemmas.List.{drop_all, length-map}
 use Rattle.std.specs.Option.{option_map}
 use Rattle.std.proofs.lemmas.Option.{slice_get-get_or}
 use Rattle.std.proofs.lemmas.Bool.{leb-true, le-leb}
@@ -50,13 +51,7 @@ lawful_decided s =
     (decides_leb (length s.functions) 64))
     (Decides-by_and (function_fits s.categories) (FunctionLawful s) (functions_fit s.categories) (function_decided s) refl (λ _ _. refl) s.functions))
 
--- the functions from number i on fit where that function and those after it do
-pub fit_from : (n : ℕ) (t : SignatureTable) (i : ℕ) (f : FunctionType) → Some f ≡ slice_get (listed t) i → functions_fit n (drop i (map typed (listed t))) ≡ (function_fits n (typed f) && functions_fit n (drop (i + 1) (map typed (listed t))))
-fit_from n t i f e =
-    rw add-one
-    (ap (functions_fit n) (drop_nth (map typed (listed t)) i (typed f) (nth_map typed (listed t) i ∙ ap (option_map typed) (sym e))))
-
--- each number below the count is that of a function
-pub listed_there : (t : SignatureTable) (i : ℕ) → i < length (listed t) → None ≢ slice_get (listed t) i
-listed_there t i lt e =
-    let f = slice_get-get_or (listed t) i record { result = 0; arguments = Zero } lt in let z : ◌≡◌ {A = ℕ} 0 1 = cc in omega arith
+-- whether each function fits
+pub fit_all : (n : ℕ) (fs : List FunctionType) → list_all (λ f. function_fits n (typed f)) fs ≡ functions_fit n (map typed fs)
+fit_all n [] = refl
+fit_all n (f ∷ fs) = ap (λ b. function_fits n (typed f) && b) (fit_all n fs)

@@ -6,17 +6,15 @@ ghost use Rattle.notation.specs.Checks.{all_below, function_fits, functions_fit,
 
 use grammar::signature::{Arguments, FunctionType, SignatureTable};
 
-// Whether the categories of a function's arguments are below a limit.
+// Whether the categories of a function's arguments are below a limit: an arm for each case, as a loop would need them as a list.
 fn arguments_fit(arguments: Arguments, limit: u8) -> bool
     ensures { result ≡ all_below limit (argument_list arguments) }
 {
     match arguments {
         Arguments::Zero => true,
         Arguments::One(first) => first < limit,
-        Arguments::Two(first, second) => (first < limit) & (second < limit),
-        Arguments::Three(first, second, third) => (first < limit)
-            & (second < limit)
-            & (third < limit),
+        Arguments::Two(first, second) => first < limit && second < limit,
+        Arguments::Three(first, second, third) => first < limit && second < limit && third < limit,
     }
 }
 
@@ -24,21 +22,17 @@ fn arguments_fit(arguments: Arguments, limit: u8) -> bool
 fn function_fits(function: FunctionType, limit: u8) -> bool
     ensures { result ≡ function_fits limit (typed function) }
 {
-    (function.result < limit) & arguments_fit(function.arguments, limit)
+    function.result < limit && arguments_fit(function.arguments, limit)
 }
 
 // Whether each function's categories are below a limit.
 fn functions_fit(table: &SignatureTable, limit: u8) -> bool
     ensures { result ≡ functions_fit limit (map typed (listed table.now)) }
 {
-    for number in 0..table.len() as u8 {
-        if let Some(function) = table.function(number) {
-            if !function_fits(function, limit) {
-                return false;
-            }
-        }
-    }
-    true
+    table
+        .functions()
+        .iter()
+        .all(|function| function_fits(*function, limit))
 }
 
 // Whether the counts and the start category are in range.
@@ -47,11 +41,7 @@ fn counts_fit(table: &SignatureTable) -> bool
 {
     let categories = table.categories();
     let functions = table.len();
-    (1 <= categories)
-        & (categories <= 16)
-        & (table.start() < categories)
-        & (1 <= functions)
-        & (functions <= 64)
+    (1..=16).contains(&categories) && table.start() < categories && (1..=64).contains(&functions)
 }
 
 // Whether the signature is lawful: its counts, and each of its functions.

@@ -7,30 +7,29 @@ ghost use Rattle.notation.specs.Checked.{lawful_decided};
 ghost use Rattle.notation.specs.Notated.{notation_lawful};
 
 use super::Notation;
-use super::rules::{in_range, written_length, written_symbol, zero_forms};
+use super::rules::{written_length, written_symbol, zero_forms};
 use super::words::{function_word_byte, function_word_length, mark_byte};
+use grammar::forms::are_forms;
 use grammar::language::Language;
 use grammar::signature::Arguments;
-use grammar::symbol::{RuleForm, Symbol};
+use grammar::symbol::{RuleForm, RuleKey, Symbol};
 
 impl Notation {
     // How many functions there are: the number of the word (.
     fn count(&self) -> u8
         ensures { result ≡ length (signature_in self.now).functions }
     {
+        // `as`, of a number that fits: `try_from` would want an answer for what cannot happen.
         self.signature.len() as u8
     }
 
-    // The arguments of a function, where its rule at the forms has a sequence for the constituent.
-    fn sequence(&self, function: u8, forms: [u8; 3], constituent: u8) -> Option<Arguments>
-        ensures { option_map (λ a. written (length (signature_in self.now).functions) function (argument_list a)) result ≡ sequence_answer (notation (signature_in self.now)) function forms constituent }
+    // The arguments of a function, where the rule that the key names has a sequence for the constituent.
+    fn sequence(&self, key: RuleKey, constituent: u8) -> Option<Arguments>
+        ensures { option_map (λ a. written (length (signature_in self.now).functions) key.function (argument_list a)) result ≡ sequence_answer (notation (signature_in self.now)) key.function key.forms constituent }
     {
-        let arguments = self.signature.function(function)?.arguments;
-        if zero_forms(forms) & (constituent == 0) {
-            Some(arguments)
-        } else {
-            None
-        }
+        let arguments = self.signature.function(key.function)?.arguments;
+        // `&`: with `&&` the proof did not close as it stands.
+        (zero_forms(key.forms) & (constituent == 0)).then_some(arguments)
     }
 }
 
@@ -48,7 +47,7 @@ impl Language for Notation {
     }
 
     fn words(&self) -> u16 {
-        self.count() as u16 + 3
+        u16::from(self.count()) + 3
     }
 
     fn start(&self) -> u8 {
@@ -56,25 +55,24 @@ impl Language for Notation {
     }
 
     fn result(&self, function: u8) -> Option<u8> {
-        let function = self.signature.function(function)?;
-        Some(function.result)
+        self.signature
+            .function(function)
+            .map(|function| function.result)
     }
 
     fn arguments(&self, function: u8) -> Option<Arguments> {
-        let function = self.signature.function(function)?;
-        Some(function.arguments)
+        self.signature
+            .function(function)
+            .map(|function| function.arguments)
     }
 
     fn dimension(&self, category: u8) -> Option<u8> {
-        if category < self.signature.categories() {
-            Some(1)
-        } else {
-            None
-        }
+        (category < self.signature.categories()).then_some(1)
     }
 
     fn word_length(&self, word: u16) -> Option<u8> {
-        let count = self.count() as u16;
+        let count = u16::from(self.count());
+        // The words of functions come first, then three marks. `as`, of a number that fits: `try_from` would want an answer for what cannot happen.
         if word < count {
             Some(function_word_length(word as u8))
         } else if word < count + 3 {
@@ -85,7 +83,8 @@ impl Language for Notation {
     }
 
     fn word_byte(&self, word: u16, index: u8) -> Option<u8> {
-        let count = self.count() as u16;
+        let count = u16::from(self.count());
+        // `as`, of a number that fits: `try_from` would want an answer for what cannot happen.
         if word < count {
             function_word_byte(word as u8, index)
         } else {
@@ -93,24 +92,23 @@ impl Language for Notation {
         }
     }
 
-    fn rule(&self, function: u8, forms: [u8; 3]) -> Option<RuleForm> {
-        let function = self.signature.function(function)?;
-        if !in_range(function.arguments, forms) {
+    fn rule(&self, key: RuleKey) -> Option<RuleForm> {
+        let function = self.signature.function(key.function)?;
+        if !are_forms(function.arguments.arity(), &key.forms) {
             None
-        } else if zero_forms(forms) {
+        } else if zero_forms(key.forms) {
             Some(RuleForm::Form(0))
         } else {
             Some(RuleForm::Missing)
         }
     }
 
-    fn sequence_length(&self, function: u8, forms: [u8; 3], constituent: u8) -> Option<u8> {
-        let arguments = self.sequence(function, forms, constituent)?;
-        Some(written_length(arguments))
+    fn sequence_length(&self, key: RuleKey, constituent: u8) -> Option<u8> {
+        self.sequence(key, constituent).map(written_length)
     }
 
-    fn symbol(&self, function: u8, forms: [u8; 3], constituent: u8, index: u8) -> Option<Symbol> {
-        let arguments = self.sequence(function, forms, constituent)?;
-        written_symbol(self.count(), function, arguments, index)
+    fn symbol(&self, key: RuleKey, constituent: u8, index: u8) -> Option<Symbol> {
+        let arguments = self.sequence(key, constituent)?;
+        written_symbol(self.count(), key.function, arguments, index)
     }
 }

@@ -23,6 +23,7 @@ impl Notation {
         ensures test { Decides (is_some result) (SignatureLawful (signature_of table)) }
         ensures signature { IfSome result (λ n. n.signature ≡ table) }
     {
+        // A plain test, since the closure of a `then` would need a clause to know that it held.
         if is_lawful(&table) {
             Some(Notation { signature: table })
         } else {

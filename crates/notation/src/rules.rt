@@ -1,7 +1,7 @@
 // The rules of a notation: each function has one, at forms that are all 0.
-ghost use Rattle.std.specs.Prelude.{◌≡◌, ℕ, length, is_some};
+ghost use Rattle.std.specs.Prelude.{◌≡◌, ℕ, length};
 ghost use Rattle.std.specs.List.{slice_get};
-ghost use Rattle.grammar.specs.Questions.{argument_list, forms_of};
+ghost use Rattle.grammar.specs.Questions.{argument_list};
 ghost use Rattle.grammar.specs.declared.symbol.Symbol.TheVariants.{Reference};
 ghost use Rattle.notation.specs.Notations.{written, all_zero};
 
@@ -9,28 +9,14 @@ use super::words::item;
 use grammar::signature::Arguments;
 use grammar::symbol::Symbol;
 
-// Whether the forms of a question are in range: 0 to 7 for each argument, and 0 past them.
-pub(super) fn in_range(arguments: Arguments, forms: [u8; 3]) -> bool
-    ensures { result ≡ is_some (forms_of (length (argument_list arguments)) forms) }
-{
-    let [first, second, third] = forms;
-    match arguments {
-        Arguments::Zero => (first == 0) & (second == 0) & (third == 0),
-        Arguments::One(_) => (first <= 7) & (second == 0) & (third == 0),
-        Arguments::Two(_, _) => (first <= 7) & (second <= 7) & (third == 0),
-        Arguments::Three(_, _, _) => (first <= 7) & (second <= 7) & (third <= 7),
-    }
-}
-
 // Whether the forms of a question are all 0.
 pub(super) fn zero_forms(forms: [u8; 3]) -> bool
     ensures { result ≡ all_zero forms }
 {
-    let [first, second, third] = forms;
-    (first == 0) & (second == 0) & (third == 0)
+    forms == [0; 3]
 }
 
-// How many symbols a function with these arguments is written by.
+// How many symbols a function with these arguments is written by: an arm for each case, as the text has.
 pub(super) fn written_length(arguments: Arguments) -> u8
     ensures { (count f : ℕ) → result ≡ length (written count f (argument_list arguments)) }
 {
@@ -52,7 +38,7 @@ fn argument(number: u8) -> Symbol
     }
 }
 
-// One of the symbols by which a function with these arguments is written, where there are `count` functions.
+// One of the symbols by which a function with these arguments is written, where there are `count` functions: an arm for each case, as the text has.
 pub(super) fn written_symbol(
     count: u8,
     function: u8,
@@ -61,10 +47,10 @@ pub(super) fn written_symbol(
 ) -> Option<Symbol>
     ensures { result ≡ slice_get (written count function (argument_list arguments)) index }
 {
-    let name = Symbol::Word(function as u16);
-    let open = Symbol::Word(count as u16);
-    let close = Symbol::Word(count as u16 + 1);
-    let comma = Symbol::Word(count as u16 + 2);
+    let name = Symbol::Word(u16::from(function));
+    let open = Symbol::Word(u16::from(count));
+    let close = Symbol::Word(u16::from(count) + 1);
+    let comma = Symbol::Word(u16::from(count) + 2);
     match arguments {
         Arguments::Zero => item(&[name], index),
         Arguments::One(_) => item(&[name, open, argument(0), close], index),

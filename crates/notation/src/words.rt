@@ -8,12 +8,7 @@ ghost use Rattle.grammar.specs.Questions.{at};
 pub(super) fn item<T: Copy>(items: &[T], index: u8) -> Option<T>
     ensures { result ≡ slice_get items.now index }
 {
-    let place = index as usize;
-    if place < items.len() {
-        Some(items[place])
-    } else {
-        None
-    }
+    items.get(usize::from(index)).copied()
 }
 
 // How long a function's word is.

@@ -1,6 +1,7 @@
 // The command `say`: a tree, by the bytes of its code, in the language of an image from a file and in notation.
 use crate::file::read_image;
 use crate::print::print_text;
+use crate::refuse::refuse;
 use anyhow::anyhow;
 use grammar::language::Language;
 use grammar::signature::SignatureTable;
@@ -24,8 +25,8 @@ fn read_code(rt: &HostRuntime, arguments: Args) -> anyhow::Result<Vec<u8>> {
         match byte_of(argument.as_str()) {
             Some(byte) => code.push(byte)?,
             None => {
-                eprintln!(rt; "panel: no byte 0 to 255: {argument}")?;
-                return Err(anyhow!("an argument is no byte"));
+                let why = format_args!("no byte 0 to 255: {argument}");
+                return refuse(rt, why, anyhow!("an argument is no byte"));
             }
         }
     }
@@ -40,33 +41,8 @@ fn say_in<L: Language>(
     language: &L,
 ) -> anyhow::Result<()> {
     match text_of(rt.alloc(), tree, language) {
-        Ok(text) => {
-            print_text(rt, name, text.as_slice())?;
-            Ok(())
-        }
-        Err(fault) => {
-            eprintln!(rt; "panel: {fault}")?;
-            Err(anyhow!("the tree is not said"))
-        }
-    }
-}
-
-// The tree of a code in a language and in the notation of its signature.
-fn say_code<'a, L: Language>(
-    rt: &HostRuntime,
-    language: &L,
-    signature: &'a SignatureTable,
-    code: &'a [u8],
-) -> anyhow::Result<()> {
-    match TreeCode::read(signature, code) {
-        Ok(tree) => {
-            say_in(rt, "language", &tree, language)?;
-            say_in(rt, "notation", &tree, &Notation::of(language))
-        }
-        Err(fault) => {
-            eprintln!(rt; "panel: {fault}")?;
-            Err(anyhow!("the code is refused"))
-        }
+        Ok(text) => Ok(print_text(rt, name, text.as_slice())?),
+        Err(fault) => refuse(rt, fault, anyhow!("the tree is not said")),
     }
 }
 
@@ -74,10 +50,12 @@ fn say_code<'a, L: Language>(
 pub fn run_say(rt: &HostRuntime, path: &str, arguments: Args) -> anyhow::Result<()> {
     let code = read_code(rt, arguments)?;
     let language = read_image(rt, path)?;
-    say_code(
-        rt,
-        &language,
-        &SignatureTable::of(&language),
-        code.as_slice(),
-    )
+    let signature = SignatureTable::of(&language);
+    match TreeCode::read(&signature, code.as_slice()) {
+        Ok(tree) => {
+            say_in(rt, "language", &tree, &language)?;
+            say_in(rt, "notation", &tree, &Notation::of(&language))
+        }
+        Err(fault) => refuse(rt, fault, anyhow!("the code is refused")),
+    }
 }

@@ -5,6 +5,7 @@ mod builtin;
 mod command;
 mod file;
 mod print;
+mod refuse;
 mod states;
 
 use builtin::run_builtin;

@@ -1,14 +1,14 @@
 // The words of a phrase, each as a part of its text.
+use tables::Table;
+
 mod places;
 mod reading;
 mod unknown;
 
-// The most words that a phrase has.
-pub const MOST_WORDS: usize = 32;
+pub use text::reader::words::MOST_WORDS;
 
-// The first `count` of `words`, or all 32 if `count` is greater, are those of the phrase, from left to right.
+// The words from left to right.
 #[derive(Clone, Copy)]
 pub struct Phrase<'a> {
-    words: [&'a [u8]; 32],
-    count: usize,
+    words: Table<&'a [u8], MOST_WORDS>,
 }

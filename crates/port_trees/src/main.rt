@@ -17,28 +17,21 @@ use std::io;
 use std::io::Write;
 use tree::code::TreeCode;
 
-// A text with its length; the bytes as they are.
-fn print_text(rt: &HostRuntime, name: &str, text: &[u8]) -> io::Result<()> {
-    let length = text.len();
-    print!(rt; "{name} ({length} bytes): ")?;
-    rt.stdout().write_all(text)?;
-    println!(rt; "")
+// The two languages of the small port: Q below small letters, and B below the hiding of f2.
+#[derive(Drop)]
+struct Port {
+    quay: SmallLetters<ImageLanguage>,
+    bridge: Hiding<ImageLanguage>,
 }
 
-// The tree's text in a language, or the refusal.
-fn print_said<L: Language>(
-    rt: &HostRuntime,
-    name: &str,
-    tree: &TreeCode,
-    language: &L,
-) -> io::Result<()> {
-    match text_of(rt.alloc(), tree, language) {
-        Ok(text) => print_text(rt, name, text.as_slice()),
-        Err(fault) => println!(rt; "{name}: {fault}"),
-    }
+// A tree, and where what is said of it is printed.
+#[derive(Drop)]
+struct Saying<'a> {
+    rt: &'a HostRuntime,
+    tree: TreeCode<'a>,
 }
 
-// The language of an image, or why there is none.
+// The language of an image, or why there is none. Crate panel loads the like, and tells the fault: no program rests on another.
 fn load_image(rt: &HostRuntime, bytes: &[u8]) -> anyhow::Result<ImageLanguage> {
     let heap = rt.alloc();
     let mut language = ImageLanguage::new(heap)?;
@@ -49,63 +42,61 @@ fn load_image(rt: &HostRuntime, bytes: &[u8]) -> anyhow::Result<ImageLanguage> {
     }
 }
 
-// The two languages of the small port: Q below small letters, and B below the hiding of f2.
-#[derive(Drop)]
-struct Port {
-    quay: SmallLetters<ImageLanguage>,
-    bridge: Hiding<ImageLanguage>,
-}
-
-fn load_port(rt: &HostRuntime) -> anyhow::Result<Port> {
-    let quay = SmallLetters {
-        below: load_image(rt, &quay_image())?,
-    };
-    let mut bridge = Hiding::new(load_image(rt, &bridge_image())?);
-    bridge.hide(2);
-    Ok(Port { quay, bridge })
-}
-
-// The tree in every language of the small port.
-fn print_tree(rt: &HostRuntime, port: &Port, tree: &TreeCode) -> io::Result<()> {
-    print_said(rt, "    Q", tree, &port.quay.below)?;
-    print_said(rt, "    B", tree, port.bridge.below())?;
-    print_said(rt, "    notation", tree, &Notation::of(&port.bridge))?;
-    print_said(rt, "    Q in small letters", tree, &port.quay)?;
-    print_said(rt, "    B without f2", tree, &port.bridge)
-}
-
-// The tree in B on a page of 16 bytes.
-fn print_on_short_page(rt: &HostRuntime, port: &Port, tree: &TreeCode) -> io::Result<()> {
-    let mut page = [b'.'; 16];
-    match say(tree, port.bridge.below(), &mut page, 0) {
-        Ok(length) => println!(rt; "    B on a page of 16 bytes: {length} bytes"),
-        Err(fault) => println!(rt; "    B on a page of 16 bytes: {fault}"),
+impl Port {
+    fn load(rt: &HostRuntime) -> anyhow::Result<Port> {
+        let quay = SmallLetters {
+            below: load_image(rt, &quay_image())?,
+        };
+        let mut bridge = Hiding::new(load_image(rt, &bridge_image())?);
+        bridge.hide(2);
+        Ok(Port { quay, bridge })
     }
 }
 
-// The tree of a code in every language and on the short page, or the code's fault.
-fn print_code<'a>(
-    rt: &HostRuntime,
-    port: &Port,
-    signature: &'a SignatureTable,
-    code: &'a [u8],
-) -> io::Result<()> {
-    println!(rt; "  tree {code:?}")?;
-    match TreeCode::read(signature, code) {
-        Ok(tree) => {
-            print_tree(rt, port, &tree)?;
-            print_on_short_page(rt, port, &tree)
+impl<'a> Saying<'a> {
+    // The tree's text in a language with its length, the bytes as they are; or the refusal. The panel prints the like, and no program rests on another.
+    fn print_in<L: Language>(&self, name: &str, language: &L) -> io::Result<()> {
+        match text_of(self.rt.alloc(), &self.tree, language) {
+            Ok(text) => {
+                let length = text.len();
+                print!(self.rt; "    {name} ({length} bytes): ")?;
+                self.rt.stdout().write_all(text.as_slice())?;
+                println!(self.rt; "")
+            }
+            Err(fault) => println!(self.rt; "    {name}: {fault}"),
         }
-        Err(fault) => println!(rt; "    {fault}"),
+    }
+
+    // The tree in a language on a page of 16 bytes.
+    fn print_on_short_page<L: Language>(&self, name: &str, language: &L) -> io::Result<()> {
+        let mut page = [b'.'; 16];
+        match say(&self.tree, language, &mut page, 0) {
+            Ok(length) => println!(self.rt; "    {name} on a page of 16 bytes: {length} bytes"),
+            Err(fault) => println!(self.rt; "    {name} on a page of 16 bytes: {fault}"),
+        }
+    }
+
+    // The tree in every language of the small port, and on the short page.
+    fn print_all(&self, port: &Port) -> io::Result<()> {
+        self.print_in("Q", &port.quay.below)?;
+        self.print_in("B", port.bridge.below())?;
+        self.print_in("notation", &Notation::of(&port.bridge))?;
+        self.print_in("Q in small letters", &port.quay)?;
+        self.print_in("B without f2", &port.bridge)?;
+        self.print_on_short_page("B", port.bridge.below())
     }
 }
 
 fn main(rt: HostRuntime) -> anyhow::Result<()> {
-    let port = load_port(&rt)?;
+    let port = Port::load(&rt)?;
     let signature = samples::small_port();
     println!(rt; "Trees")?;
     for code in samples::TREES {
-        print_code(&rt, &port, &signature, code)?;
+        println!(rt; "  tree {code:?}")?;
+        match TreeCode::read(&signature, code) {
+            Ok(tree) => Saying { rt: &rt, tree }.print_all(&port)?,
+            Err(fault) => println!(rt; "    {fault}")?,
+        }
     }
     Ok(())
 }

@@ -8,7 +8,7 @@ use Rattle.grammar.specs.Trees.{Tree, Trees, code, codes}
 use Rattle.grammar.specs.Trees.Tree.{node}
 use Rattle.grammar.specs.Trees.Trees.{none, more}
 use Rattle.saying.specs.Laws.{SaidOrMute, SaidIsNotMute, FirstMuteIsUnique}
-use Rattle.saying.specs.Mute.{At, AtIn, MuteNode, FirstMute}
+use Rattle.saying.specs.Mute.{At, AtIn, MuteNode, FirstMute, FirstMuteIn}
 
 -- a place of a subtree lies in the code
 mutual
@@ -57,15 +57,8 @@ mutual
   none_mute_in (more t ts) m all i u e (inl h) q = let parts = more_parts m t ts all e in none_mute t m parts.0 i u parts.2 h q
   none_mute_in (more t ts) m all i u e (inr p) q = let parts = more_parts m t ts all e in none_mute_in ts m parts.1 p.0 u parts.3 p.2 q
 
--- the first mute node of a row of trees
-record FirstMuteIn (m : Meaning) (ts : Trees) (i : ℕ) : Type 0 where
-  subtree : Tree
-  there : AtIn ts i subtree
-  mute : MuteNode m subtree
-  none_before : (j : ℕ) (u : Tree) → j < i → AtIn ts j u → MuteNode m u → ⊥
-
--- a row of which a tree has a mute node is not said
-in_front : (m : Meaning) (t : Tree) (ts : Trees) (i : ℕ) → FirstMute m t i → FirstMuteIn m (more t ts) i
+-- the first mute node of a row of trees: of its first tree, or further on
+pub in_front : (m : Meaning) (t : Tree) (ts : Trees) (i : ℕ) → FirstMute m t i → FirstMuteIn m (more t ts) i
 in_front m t ts i p = record {
   subtree = p.subtree;
   there = inl p.there;
@@ -73,7 +66,7 @@ in_front m t ts i p = record {
   none_before = λ j u lt at q. ⊎_elim (λ h. p.none_before j u lt h q) (λ h. let inside = at_within t i p.subtree p.there in let past = h.1 in absurd (omega (arith, inside, past))) at;
 }
 
-further_on : (m : Meaning) (t : Tree) (ts : Trees) (s : Said) (i : ℕ) → linearized m t ≡ Some s → FirstMuteIn m ts i → FirstMuteIn m (more t ts) (length (code t) + i)
+pub further_on : (m : Meaning) (t : Tree) (ts : Trees) (s : Said) (i : ℕ) → linearized m t ≡ Some s → FirstMuteIn m ts i → FirstMuteIn m (more t ts) (length (code t) + i)
 further_on m t ts s i said p = record {
   subtree = p.subtree;
   there = inr (i, refl, p.there);
@@ -81,7 +74,11 @@ further_on m t ts s i said p = record {
   none_before = λ j u lt at q. ⊎_elim (λ h. none_mute t m s j u said h q) (λ h. let past = h.1 in p.none_before h.0 u (omega (arith, past)) h.2 q) at;
 }
 
-below : (m : Meaning) (f : ℕ) (ts : Trees) (i : ℕ) → FirstMuteIn m ts i → FirstMute m (node f ts) (suc i)
+pub row_not_said : (m : Meaning) (ts : Trees) (i : ℕ) → FirstMuteIn m ts i → (all : List Said) → linearized_all m ts ≡ Some all → ⊥
+row_not_said m ts i p all e = none_mute_in ts m all i p.subtree e p.there p.mute
+
+-- a node over a row that has a mute node, or over one that is said
+pub below : (m : Meaning) (f : ℕ) (ts : Trees) (i : ℕ) → FirstMuteIn m ts i → FirstMute m (node f ts) (suc i)
 below m f ts i p = record {
   subtree = p.subtree;
   there = inr (i, refl, p.there);
@@ -92,10 +89,9 @@ below m f ts i p = record {
       at;
 }
 
-at_root : (m : Meaning) (f : ℕ) (ts : Trees) (all : List Said) → linearized_all m ts ≡ Some all → m.rule f (map said_form all) ≡ None → FirstMute m (node f ts) 0
+pub at_root : (m : Meaning) (f : ℕ) (ts : Trees) (all : List Said) → linearized_all m ts ≡ Some all → m.rule f (map said_form all) ≡ None → FirstMute m (node f ts) 0
 at_root m f ts all e r = record { subtree = node f ts; there = inl (refl, refl); mute = (all, e, r); none_before = λ j u lt at q. absurd (omega arith) }
 
--- a node over a row that is said
 root_or_said : (m : Meaning) (f : ℕ) (ts : Trees) (all : List Said) → linearized_all m ts ≡ Some all → ((s : Said) × (linearized m (node f ts) ≡ Some s)) ⊎ ((i : ℕ) × FirstMute m (node f ts) i)
 root_or_said m f ts all e = by (m.rule f (map said_form all)) refl
   where

@@ -31,3 +31,10 @@ pub record FirstMute (m : Meaning) (t : Tree) (i : ℕ) : Type 0 where
   pub there : At t i subtree
   pub mute : MuteNode m subtree
   pub none_before : (j : ℕ) (u : Tree) → j < i → At t j u → MuteNode m u → ⊥
+
+-- the first mute node of a row of trees stands at place i of their codes
+pub record FirstMuteIn (m : Meaning) (ts : Trees) (i : ℕ) : Type 0 where
+  pub subtree : Tree
+  pub there : AtIn ts i subtree
+  pub mute : MuteNode m subtree
+  pub none_before : (j : ℕ) (u : Tree) → j < i → AtIn ts j u → MuteNode m u → ⊥

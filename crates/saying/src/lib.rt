@@ -14,16 +14,19 @@ pub fn said_is_not_mute()
 {}
 
 // It has one first mute node at most.
+#[tactic(auto, using(crate::proofs::Muteness::first_mute_is_unique))]
 pub fn first_mute_is_unique()
     ensures { FirstMuteIsUnique }
 {}
 
 // A text is as long as the sums over its words say.
+#[tactic(auto, using(crate::proofs::Lengths::text_length_by_sums))]
 pub fn text_length_by_sums()
     ensures { TextLengthBySums }
 {}
 
 // What is said of a tree is bounded by its depth.
+#[tactic(auto, using(crate::proofs::Lengths::constituents_are_bounded))]
 pub fn constituents_are_bounded()
     ensures { ConstituentsAreBounded }
 {}

@@ -1,7 +1,6 @@
--- The order of keys: strict, total on keys of one length, and rising from each rule of a sound image to every later one.
-use Rattle.std.proofs.Common.{◌≡◌, ℕ, zero, suc, ◌+◌, ◌-◌, ◌<◌, ◌≤◌, true, ◌&&◌, eqb, ltb, ◌⊎◌, List, [], ◌∷◌, length, get_or, take, sym, ◌∙◌, subst, inl, inr, ⊎_elim, arith}
+-- The order of keys: strict, transitive, and rising from each rule of a sound image to every later one.
+use Rattle.std.proofs.Common.{◌≡◌, ℕ, zero, suc, ◌+◌, ◌-◌, ◌<◌, true, ◌&&◌, eqb, ltb, ◌⊎◌, List, [], ◌∷◌, sym, ◌∙◌, subst, inl, inr, ⊎_elim, arith}
 use Rattle.std.proofs.lemmas.Bool.{ltb-true, eqb-true, lt-ltb, eq-eqb, and_parts, and_from, or_cases, or_left, or_right, false≢true}
-use Rattle.std.proofs.lemmas.List.{take_all}
 use Rattle.view.specs.Grammar.{key}
 use Rattle.demands.specs.Check.{rises, key_rises}
 
@@ -47,15 +46,3 @@ rising b n each i j ij jn = go (apart i j ij)
 
     go : (d : ℕ) × (j ≡ i + suc d) → rises (key b i) (key b j) ≡ true
     go p = subst (λ k. rises (key b i) (key b k) ≡ true) (sym p.1) (rising_by b n each i p.0 (omega (arith, p.1)))
-
--- keys that agree up to a place and differ there
-pub rises_at : (xs ys : List ℕ) (i : ℕ) → i < length xs → i < length ys → take i xs ≡ take i ys → get_or xs i 0 < get_or ys i 0 → rises xs ys ≡ true
-rises_at [] ys i xl yl same lt = absurd (omega arith)
-rises_at (x ∷ xs) [] i xl yl same lt = absurd (omega arith)
-rises_at (x ∷ xs) (y ∷ ys) zero xl yl same lt = lower x y xs ys lt
-rises_at (x ∷ xs) (y ∷ ys) (suc i) xl yl same lt =
-    level x y xs ys (let e : x ≡ y = cc in e) (rises_at xs ys i (omega arith) (omega arith) (let e : take i xs ≡ take i ys = cc in e) lt)
-
--- keys that agree to the end
-pub same_keys : (xs ys : List ℕ) (i : ℕ) → length xs ≤ i → length ys ≤ i → take i xs ≡ take i ys → xs ≡ ys
-same_keys xs ys i xl yl same = sym (take_all i xs xl) ∙ same ∙ take_all i ys yl

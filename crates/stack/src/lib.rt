@@ -9,6 +9,7 @@ mod methods;
 mod tests;
 
 // The first `used` cells hold the values, the bottom one first, and the cells past them are free.
+// A rule of the project names this form: lent cells, and a `pop` that fills a lent place.
 #[derive(Drop)]
 pub struct Stack<'a, T> {
     cells: &'a mut [T],

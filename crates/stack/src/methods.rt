@@ -14,7 +14,8 @@ impl<'a, T: Copy> Stack<'a, T> {
         Stack { cells, used: 0 }
     }
 
-    // Puts the value on top and answers true; or answers false, and changes nothing, where each cell is used.
+    // Puts the value on top and answers true; or answers false, and changes nothing, where each cell is used. A `bool`, as `pop` answers: no value stands
+    // beside it.
     pub fn push(&mut self, value: T) -> bool
         ensures fits { result ≡ true → length (held self.old) < room self.old }
         ensures full { result ≡ false → length (held self.old) ≡ room self.old }
@@ -34,7 +35,7 @@ impl<'a, T: Copy> Stack<'a, T> {
     }
 
     // Takes the top value off into the lent place and answers true; or answers false, and changes nothing, where
-    // the stack holds none. The cells stay as they are.
+    // the stack holds none. The cells stay as they are. A rule of the project names this form.
     pub fn pop(&mut self, place: &mut T) -> bool
         ensures top { result ≡ true → held self.old ≡ held self.new ++ place.new ∷ [] }
         ensures fewer { result ≡ true → length (held self.old) ≡ length (held self.new) + 1 }

@@ -1,12 +1,16 @@
 -- The scan of one word: what it keeps from byte to byte, and what the walk does at each kind of byte.
-use Rattle.std.proofs.Common.{◌≡◌, ℕ, suc, ◌+◌, ◌-◌, ◌<◌, ◌≤◌, true, false, ◌⊎◌, List, [], ◌∷◌, ◌++◌, length, get_or, drop, Ok, refl, ap, ◌∙◌, ⊎_elim, add-one, arith}
+use Rattle.std.proofs.Common.{◌≡◌, ℕ, suc, ◌+◌, ◌-◌, ◌<◌, ◌≤◌, true, false, ◌⊎◌, List, [], ◌∷◌, ◌++◌, length, get_or, take, drop, Ok, refl, ap, ◌∙◌, ⊎_elim, add-one, arith}
 use Rattle.std.proofs.lemmas.List.Edits.{length-between, between_more}
-use Rattle.std.proofs.lemmas.List.{length-drop, at_drop_more, at_drop_all}
+use Rattle.std.proofs.lemmas.List.{get_or-drop, get_or-take, length-drop, at_drop_more, at_drop_all}
 use Rattle.std.proofs.lemmas.Bool.{le-leb, lt-leb, and_right, and_from, or_left, or_right, or_from, cases_eq}
 use Rattle.fault.specs.declared.kinds.PhraseFault.TheVariants.{WrongByte, LongWord, TooManyWords}
 use Rattle.grammar.specs.PhraseWalk.{Walk, walk, kind, empty, stopped, finished, hand_out, most_words, longest_word}
 use Rattle.grammar.specs.PhraseWalk.Kind.{between, letter, neither}
 use Rattle.text.specs.HandOut.{walk_from, part, Ended}
+
+-- a byte of the rest of a phrase is one of the phrase
+pub rest_byte : (s : List ℕ) (a k : ℕ) → a + k < length s → get_or (take (length s - a) (drop a s)) k 0 ≡ get_or s (a + k) 0
+rest_byte s a k inside = get_or-take (length s - a) (drop a s) k 0 (omega arith) ∙ get_or-drop a s k 0
 
 empty_none : (bytes : List ℕ) → length bytes ≡ 0 → empty bytes ≡ true
 empty_none [] none = refl

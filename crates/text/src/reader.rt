@@ -1,7 +1,7 @@
 // The phrase reader's types: a word of a phrase with its place, and the reader itself, which owns no byte.
 ghost use Rattle.std.specs.Prelude.{◌≤◌, length};
 
-mod words;
+pub mod words;
 
 // A word as a part of its phrase, and the place of its first byte.
 #[derive(Clone, Copy)]

@@ -1,22 +1,15 @@
--- Lists with the same elements are the same, and a signature tells its table's functions.
-use Rattle.std.proofs.Common.{◌≡◌, ℕ, suc, ◌<◌, List, [], ◌∷◌, map, length, sym, refl, ap, ◌∙◌, arith}
-use Rattle.std.specs.List.{slice_get}
+-- A signature tells its table: tables are the same where their signatures are.
+use Rattle.std.proofs.Common.{◌≡◌, ℕ, Bool, ◌&&◌, eqb, List, [], ◌∷◌, map, Decides, sym, refl, ap, ◌∙◌}
+use Rattle.std.specs.Cmp.Lexicographic.{pointwise}
+use Rattle.std.proofs.lemmas.Bool.{and_from, and_parts, eq-eqb, eqb-true}
+use Rattle.std.proofs.lemmas.Slice.Eq.{slice_eq-Decides}
 use Rattle.grammar.specs.declared.signature.Arguments.{Arguments}
 use Rattle.grammar.specs.declared.signature.Arguments.TheVariants.{Zero, One, Two, Three}
 use Rattle.grammar.specs.declared.signature.FunctionType.{FunctionType}
+use Rattle.grammar.specs.declared.signature.SignatureTable.{SignatureTable}
 use Rattle.grammar.specs.Questions.{argument_list}
-use Rattle.grammar.specs.Signatures.{Function}
-use Rattle.grammar.specs.Tables.{typed}
-
-pub same_elements : {A : Type 0} (xs ys : List A) → length xs ≡ length ys → ((i : ℕ) → i < length xs → slice_get xs i ≡ slice_get ys i) → xs ≡ ys
-same_elements [] [] long each = refl
-same_elements [] (y ∷ ys) long each = absurd (omega arith)
-same_elements (x ∷ xs) [] long each = absurd (omega arith)
-same_elements (x ∷ xs) (y ∷ ys) long each =
-    let first = each 0 (omega arith) in
-    let same : x ≡ y = cc in
-    let rest = same_elements xs ys (omega arith) (λ i lt. each (suc i) (omega arith)) in
-    λ i. same i ∷ rest i
+use Rattle.grammar.specs.Signatures.{Function, Signature}
+use Rattle.grammar.specs.Tables.{listed, signature_of, typed}
 
 -- a list of at most three categories stands for one way to take arguments
 abbrev taken : List ℕ → Arguments
@@ -43,3 +36,22 @@ same_types fs gs h = sym (back fs) ∙ ap (map table_type) h ∙ back gs
     back : (hs : List FunctionType) → map table_type (map typed hs) ≡ hs
     back [] = refl
     back (f ∷ hs) = λ i. typed_back f i ∷ back hs i
+
+abbrev signature : ℕ → ℕ → List Function → Signature
+signature categories start functions = record { categories = categories; start = start; functions = functions }
+
+-- where a test decides whether two functions have the same type, it decides whether two tables have the same signature
+pub tables_decide : {test : FunctionType → FunctionType → Bool} → ((f g : FunctionType) → Decides (test f g) (f ≡ g)) → (a b : SignatureTable) (r : Bool) → r ≡ (eqb a.categories b.categories && (eqb a.start b.start && pointwise test (listed a) (listed b))) → Decides r (signature_of a ≡ signature_of b)
+tables_decide {test} decides a b r told = (
+  λ e.
+      let p = and_parts (eqb a.categories b.categories) (eqb a.start b.start && pointwise test (listed a) (listed b)) (sym told ∙ e) in
+      let q = and_parts (eqb a.start b.start) (pointwise test (listed a) (listed b)) p.1 in
+      let functions : map typed (listed a) ≡ map typed (listed b) = ap (map typed) (all.0 q.1) in
+      λ i. signature (eqb-true _ _ p.0 i) (eqb-true _ _ q.0 i) (functions i),
+  λ e.
+      told
+      ∙ and_from _ _ (eq-eqb _ _ (ap (λ (s : Signature). s.categories) e)) (and_from _ _ (eq-eqb _ _ (ap (λ (s : Signature). s.start) e)) (all.1 (same_types (listed a) (listed b) (ap (λ (s : Signature). s.functions) e)))),
+)
+  where
+    all : Decides (pointwise test (listed a) (listed b)) (listed a ≡ listed b)
+    all = slice_eq-Decides decides (listed a) (listed b) (pointwise test (listed a) (listed b)) refl

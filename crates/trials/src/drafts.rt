@@ -1,7 +1,7 @@
 // What the walk reads and refuses over the signature of a small port.
 use calls::samples::small_port;
 use draft::depth::Depth;
-use draft::nodes::{DraftByte, DraftNode};
+use draft::nodes::DraftNode;
 use draft::walk::read_draft;
 use fault::kinds::TreeFault;
 use std::test::Fail;
@@ -18,7 +18,7 @@ fn nodes_in_order(rt: HostRuntime) -> Result<(), Fail> {
     assert_eq!(rt;
         nodes.node(0),
         Some(DraftNode {
-            byte: DraftByte::Function(0),
+            function: Some(0),
             category: 0,
             left: 2,
         })
@@ -26,7 +26,7 @@ fn nodes_in_order(rt: HostRuntime) -> Result<(), Fail> {
     assert_eq!(rt;
         nodes.node(1),
         Some(DraftNode {
-            byte: DraftByte::Function(2),
+            function: Some(2),
             category: 1,
             left: 1,
         })

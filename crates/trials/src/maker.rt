@@ -5,12 +5,13 @@
 // word 0, r01 is of argument 0 the constituent 1.
 use crate::expect::expect;
 use image::language::ImageLanguage;
-use std::alloc::{AllocError, Global};
+use std::alloc::Global;
 use std::test::Fail;
 
 // The sections of an image.
 #[derive(Drop)]
 struct Sections {
+    heap: Global,
     start: u8,
     dimensions: Vec<u8>,
     functions: Vec<u8>,
@@ -18,20 +19,6 @@ struct Sections {
     rules: Vec<u8>,
     symbols: Vec<u8>,
     spelled: Vec<u8>,
-}
-
-impl Sections {
-    fn new(heap: Global) -> Sections {
-        Sections {
-            start: 0,
-            dimensions: Vec::new(heap),
-            functions: Vec::new(heap),
-            words: Vec::new(heap),
-            rules: Vec::new(heap),
-            symbols: Vec::new(heap),
-            spelled: Vec::new(heap),
-        }
-    }
 }
 
 // A number of 16 bits, the low byte first.
@@ -42,140 +29,133 @@ fn put_two(bytes: &mut Vec<u8>, number: usize) -> Result<(), Fail> {
 }
 
 // The numbers that stand in a part of a line.
-fn put_numbers(bytes: &mut Vec<u8>, text: &str) -> Result<usize, Fail> {
-    let mut count: usize = 0;
-    for token in text.split_whitespace() {
-        bytes.push(token.parse::<u8>()?)?;
-        count = count.saturating_add(1);
-    }
-    Ok(count)
+fn read_numbers(heap: Global, text: &str) -> Result<Vec<u8>, Fail> {
+    text.split_whitespace()
+        .map(|token| -> Result<u8, Fail> { Ok(token.parse::<u8>()?) })
+        .try_collect(heap)
 }
 
-// A function's entry: its result, arity, and arguments filled up to three.
-fn put_function(sections: &mut Sections, heap: Global, text: &str) -> Result<(), Fail> {
-    let mut numbers = Vec::new(heap);
-    let count = put_numbers(&mut numbers, text)?;
-    expect(
-        1 <= count && count <= 4,
-        "a function has a result and at most three arguments",
-    )?;
-    let arity = u8::try_from(count.saturating_sub(1))?;
-    sections
-        .functions
-        .push(numbers.get(0).copied().unwrap_or(0))?;
-    sections.functions.push(arity)?;
-    for place in 1..4 {
-        sections
-            .functions
-            .push(numbers.get(place).copied().unwrap_or(0))?;
-    }
-    Ok(())
-}
-
-// A word's entry and its spelling.
-fn put_word(sections: &mut Sections, text: &str) -> Result<(), Fail> {
-    let word = text.trim().as_bytes();
-    put_two(&mut sections.words, sections.spelled.len())?;
-    sections.words.push(u8::try_from(word.len())?)?;
-    sections.spelled.extend_from_slice(word)?;
-    Ok(())
-}
-
-// A symbol: a word's number, or 0x8000 + 4 × argument + constituent.
-fn put_symbol(symbols: &mut Vec<u8>, token: &str) -> Result<(), Fail> {
+// A symbol's number: that of a word, or 0x8000 + 4 × argument + constituent.
+fn read_symbol(token: &str) -> Result<u16, Fail> {
     match token.as_bytes() {
-        [b'w', number] => {
-            let number = number.wrapping_sub(b'0');
-            put_two(symbols, usize::from(number))
-        }
+        [b'w', number] => Ok(u16::from(number.wrapping_sub(b'0'))),
         [b'r', argument, constituent] => {
-            let argument = usize::from(argument.wrapping_sub(b'0'));
-            let constituent = usize::from(constituent.wrapping_sub(b'0'));
-            put_two(
-                symbols,
-                argument
-                    .saturating_mul(4)
-                    .saturating_add(constituent)
-                    .saturating_add(0x8000),
-            )
+            let argument = u16::from(argument.wrapping_sub(b'0'));
+            let constituent = u16::from(constituent.wrapping_sub(b'0'));
+            Ok(0x8000 + 4 * argument + constituent)
         }
         _ => Err(Fail::new("no symbol")),
     }
 }
 
-// A sequence: its symbols, and in its rule's entry the first of them and their count.
-fn put_sequence(sections: &mut Sections, text: &str) -> Result<(), Fail> {
-    let first = sections.symbols.len() / 2;
-    let mut count: usize = 0;
-    for token in text.split_whitespace() {
-        put_symbol(&mut sections.symbols, token)?;
-        count = count.saturating_add(1);
+impl Sections {
+    fn new(heap: Global) -> Sections {
+        Sections {
+            heap,
+            start: 0,
+            dimensions: Vec::new(heap),
+            functions: Vec::new(heap),
+            words: Vec::new(heap),
+            rules: Vec::new(heap),
+            symbols: Vec::new(heap),
+            spelled: Vec::new(heap),
+        }
     }
-    put_two(&mut sections.rules, first)?;
-    sections.rules.push(u8::try_from(count)?)?;
-    Ok(())
-}
 
-// A rule's entry, filled up to four constituents.
-fn put_rule(sections: &mut Sections, text: &str) -> Result<(), Fail> {
-    let mut parts = text.split('|');
-    let count = put_numbers(&mut sections.rules, parts.next().unwrap_or(""))?;
-    expect(count == 5, "a rule begins with five numbers")?;
-    let mut count: usize = 0;
-    for part in parts {
-        put_sequence(sections, part)?;
-        count = count.saturating_add(1);
-    }
-    for _ in count..4 {
-        sections.rules.extend_from_slice(&[0, 0, 0])?;
-    }
-    Ok(())
-}
-
-fn put_line(sections: &mut Sections, heap: Global, line: &str) -> Result<(), Fail> {
-    if let Some(text) = line.strip_prefix("dimensions ") {
-        let _count = put_numbers(&mut sections.dimensions, text)?;
+    // A function's entry: its result, arity, and arguments filled up to three.
+    fn put_function(&mut self, text: &str) -> Result<(), Fail> {
+        let numbers = read_numbers(self.heap, text)?;
+        let [result, arguments @ ..] = numbers.as_slice() else {
+            return Err(Fail::new("a function has a result"));
+        };
+        let mut filled = Vec::from_slice(self.heap, arguments)?;
+        expect(filled.len() <= 3, "a function has at most three arguments")?;
+        filled.resize(3, 0)?;
+        self.functions.push(*result)?;
+        self.functions.push(u8::try_from(arguments.len())?)?;
+        self.functions.extend_from_slice(filled.as_slice())?;
         Ok(())
-    } else if let Some(text) = line.strip_prefix("start ") {
-        sections.start = text.parse::<u8>()?;
-        Ok(())
-    } else if let Some(text) = line.strip_prefix("function ") {
-        put_function(sections, heap, text)
-    } else if let Some(text) = line.strip_prefix("word ") {
-        put_word(sections, text)
-    } else if let Some(text) = line.strip_prefix("rule ") {
-        put_rule(sections, text)
-    } else {
-        expect(line.is_empty(), "the line is of no kind")
     }
-}
 
-// The head with the counts, and the sections after it.
-fn join_sections(heap: Global, sections: &Sections) -> Result<Vec<u8>, Fail> {
-    let mut image = Vec::from_slice(heap, b"CNC\x01\0")?;
-    image.push(u8::try_from(sections.dimensions.len())?)?;
-    image.push(u8::try_from(sections.functions.len() / 5)?)?;
-    image.push(sections.start)?;
-    put_two(&mut image, sections.words.len() / 3)?;
-    put_two(&mut image, sections.rules.len() / 17)?;
-    put_two(&mut image, sections.symbols.len() / 2)?;
-    put_two(&mut image, sections.spelled.len())?;
-    image.extend_from_slice(sections.dimensions.as_slice())?;
-    image.extend_from_slice(sections.functions.as_slice())?;
-    image.extend_from_slice(sections.words.as_slice())?;
-    image.extend_from_slice(sections.rules.as_slice())?;
-    image.extend_from_slice(sections.symbols.as_slice())?;
-    image.extend_from_slice(sections.spelled.as_slice())?;
-    Ok(image)
+    // A word's entry and its spelling.
+    fn put_word(&mut self, text: &str) -> Result<(), Fail> {
+        let word = text.trim().as_bytes();
+        put_two(&mut self.words, self.spelled.len())?;
+        self.words.push(u8::try_from(word.len())?)?;
+        self.spelled.extend_from_slice(word)?;
+        Ok(())
+    }
+
+    // A sequence: its symbols, and in its rule's entry the first of them and their count.
+    fn put_sequence(&mut self, text: &str) -> Result<(), Fail> {
+        put_two(&mut self.rules, self.symbols.len() / 2)?;
+        let count = text.split_whitespace().count();
+        self.rules.push(u8::try_from(count)?)?;
+        for token in text.split_whitespace() {
+            self.symbols
+                .extend_from_slice(&read_symbol(token)?.to_le_bytes())?;
+        }
+        Ok(())
+    }
+
+    // A rule's entry, filled up to four constituents.
+    fn put_rule(&mut self, text: &str) -> Result<(), Fail> {
+        let (head, sequences) = text.split_once('|').ok_or("a rule has a sequence")?;
+        let numbers = read_numbers(self.heap, head)?;
+        expect(numbers.len() == 5, "a rule begins with five numbers")?;
+        self.rules.extend_from_slice(numbers.as_slice())?;
+        for sequence in sequences.split('|') {
+            self.put_sequence(sequence)?;
+        }
+        for _ in sequences.split('|').count()..4 {
+            self.rules.extend_from_slice(&[0, 0, 0])?;
+        }
+        Ok(())
+    }
+
+    fn put_line(&mut self, line: &str) -> Result<(), Fail> {
+        match line.split_once(' ') {
+            Some(("dimensions", text)) => self.dimensions = read_numbers(self.heap, text)?,
+            Some(("start", text)) => self.start = text.parse::<u8>()?,
+            Some(("function", text)) => self.put_function(text)?,
+            Some(("word", text)) => self.put_word(text)?,
+            Some(("rule", text)) => self.put_rule(text)?,
+            _ => expect(line.is_empty(), "the line is of no kind")?,
+        }
+        Ok(())
+    }
+
+    // The head with the counts, and the sections after it.
+    fn join(&self) -> Result<Vec<u8>, Fail> {
+        let mut image = Vec::from_slice(self.heap, b"CNC\x01\0")?;
+        image.push(u8::try_from(self.dimensions.len())?)?;
+        image.push(u8::try_from(self.functions.len() / 5)?)?;
+        image.push(self.start)?;
+        put_two(&mut image, self.words.len() / 3)?;
+        put_two(&mut image, self.rules.len() / 17)?;
+        put_two(&mut image, self.symbols.len() / 2)?;
+        put_two(&mut image, self.spelled.len())?;
+        for section in [
+            &self.dimensions,
+            &self.functions,
+            &self.words,
+            &self.rules,
+            &self.symbols,
+            &self.spelled,
+        ] {
+            image.extend_from_slice(section.as_slice())?;
+        }
+        Ok(image)
+    }
 }
 
 // The language of the grammar in the text, by way of an image that is checked and loaded.
 pub fn make_language(heap: Global, text: &str) -> Result<ImageLanguage, Fail> {
     let mut sections = Sections::new(heap);
     for line in text.lines() {
-        put_line(&mut sections, heap, line.trim())?;
+        sections.put_line(line.trim())?;
     }
-    let image = join_sections(heap, &sections)?;
+    let image = sections.join()?;
     let mut language = ImageLanguage::new(heap)?;
     language.load(heap, image.as_slice())?;
     Ok(language)

@@ -17,13 +17,10 @@ fn expect_end(reader: &mut PhraseReader) -> Result<(), Fail> {
 
 // The reader stops with this fault, however often it is asked.
 fn expect_fault(reader: &mut PhraseReader, fault: PhraseFault) -> Result<(), Fail> {
-    for _ in 0..2 {
-        match reader.next_word() {
-            Ok(_) => return Err(Fail::new("no fault")),
-            Err(found) => expect(found == fault, "another fault")?,
-        }
-    }
-    Ok(())
+    let first = reader.next_word().err();
+    expect(first == Some(fault), "another answer than the fault")?;
+    let again = reader.next_word().err();
+    expect(again == first, "another answer when it is asked again")
 }
 
 #[test]
@@ -56,8 +53,8 @@ fn a_word_has_at_most_24_bytes() -> Result<(), Fail> {
 
 // The word three again and again, with single blanks between.
 fn repeat_three(bytes: &mut [u8]) {
-    for i in 0..bytes.len() {
-        bytes[i] = b"three "[i % 6];
+    for (byte, letter) in bytes.iter_mut().zip(b"three ".iter().cycle()) {
+        *byte = *letter;
     }
 }
 
@@ -67,9 +64,9 @@ fn a_phrase_has_at_most_32_words() -> Result<(), Fail> {
     repeat_three(&mut bytes);
     let mut enough = PhraseReader::new(&bytes[0..191]);
     let mut too_many = PhraseReader::new(&bytes);
-    for i in 0..32 {
-        expect_word(&mut enough, b"three", i * 6)?;
-        expect_word(&mut too_many, b"three", i * 6)?;
+    for place in (0..192).step_by(6) {
+        expect_word(&mut enough, b"three", place)?;
+        expect_word(&mut too_many, b"three", place)?;
     }
     expect_end(&mut enough)?;
     expect_fault(&mut too_many, PhraseFault::TooManyWords { byte: 192 })

@@ -1,5 +1,5 @@
 // What is said of all trees of small grammars, held to texts and mute nodes that an enumeration of its own comes to.
-use crate::enumeration::{Built, Outcome, build_trees};
+use crate::enumeration::build_trees;
 use crate::expect::expect;
 use crate::grammars;
 use crate::maker::make_language;
@@ -50,106 +50,75 @@ const MUTE: [(&[u8], usize); 7] = [
     (&[6, 0, 2, 0, 1], 0),
 ];
 
-// The text is granted from the start place on, with so many bytes of the page behind it, and no other byte changes.
-fn check_granted<L: Language>(
+// A tree that is to be said in a language.
+#[derive(Drop)]
+struct Trial<'a, L> {
     heap: Global,
-    language: &L,
-    tree: &TreeCode,
-    text: &[u8],
-    start: usize,
-    behind: usize,
-) -> Result<(), Fail> {
-    let mut expected = Vec::from_elem(heap, b'.', start)?;
-    expected.extend_from_slice(text)?;
-    for _ in 0..behind {
-        expected.push(b'.')?;
-    }
-    let mut page = Vec::from_elem(heap, b'.', expected.len())?;
-    let answer = say(tree, language, page.as_mut_slice(), start);
-    expect(answer == Ok(text.len()), "another answer than the length")?;
-    expect(
-        page.as_slice() == expected.as_slice(),
-        "another page than the text",
-    )
+    language: &'a L,
+    tree: TreeCode<'a>,
 }
 
-// The tree is refused on a page of that size, of which no byte changes.
-fn check_refused<L: Language>(
-    heap: Global,
-    language: &L,
-    tree: &TreeCode,
-    size: usize,
-    start: usize,
-    fault: SayFault,
-) -> Result<(), Fail> {
-    let blank = Vec::from_elem(heap, b'.', size)?;
-    let mut page = Vec::from_elem(heap, b'.', size)?;
-    let answer = say(tree, language, page.as_mut_slice(), start);
-    expect(answer == Err(fault), "another answer than the fault")?;
-    expect(page.as_slice() == blank.as_slice(), "the page has changed")
-}
-
-// The text is granted on a page of its size and on a larger one, and refused on pages that are one byte short.
-fn check_said<L: Language>(
-    heap: Global,
-    language: &L,
-    tree: &TreeCode,
-    text: &[u8],
-) -> Result<(), Fail> {
-    let length = text.len();
-    check_granted(heap, language, tree, text, 0, 0)?;
-    check_granted(heap, language, tree, text, 3, 2)?;
-    if length > 0 {
-        check_refused(
+impl<'a, L: Language> Trial<'a, L> {
+    // The tree of the code.
+    fn of_code(
+        heap: Global,
+        language: &'a L,
+        signature: &'a SignatureTable,
+        code: &'a [u8],
+    ) -> Result<Trial<'a, L>, Fail> {
+        let tree = TreeCode::read(signature, code)?;
+        Ok(Trial {
             heap,
             language,
             tree,
-            length - 1,
-            0,
-            SayFault::NoRoom { length },
-        )?;
+        })
     }
-    let size = length.saturating_add(3);
-    check_refused(heap, language, tree, size, 4, SayFault::NoRoom { length })
-}
 
-// The mute node is told wherever the tree would begin.
-fn check_mute<L: Language>(
-    heap: Global,
-    language: &L,
-    tree: &TreeCode,
-    node: usize,
-) -> Result<(), Fail> {
-    check_refused(heap, language, tree, 64, 0, SayFault::Mute { node })?;
-    check_refused(heap, language, tree, 2, 3, SayFault::Mute { node })
-}
+    // The text is granted from the start place on, with so many bytes of the page behind it, and no other byte changes.
+    fn expect_granted(&self, text: &[u8], start: usize, behind: usize) -> Result<(), Fail> {
+        let mut expected = Vec::from_elem(self.heap, b'.', start)?;
+        expected.extend_from_slice(text)?;
+        expected.resize(expected.len().saturating_add(behind), b'.')?;
+        let mut page = Vec::from_elem(self.heap, b'.', expected.len())?;
+        let answer = say(&self.tree, self.language, page.as_mut_slice(), start);
+        expect(answer == Ok(text.len()), "another answer than the length")?;
+        expect(
+            page.as_slice() == expected.as_slice(),
+            "another page than the text",
+        )
+    }
 
-// The tree of the code has this text.
-fn check_text<'a, L: Language>(
-    heap: Global,
-    language: &L,
-    signature: &'a SignatureTable,
-    code: &'a [u8],
-    text: &[u8],
-) -> Result<(), Fail> {
-    let tree = TreeCode::read(signature, code)?;
-    check_said(heap, language, &tree, text)
-}
+    // The tree is refused on a page of that size, of which no byte changes.
+    fn expect_refused(&self, size: usize, start: usize, fault: SayFault) -> Result<(), Fail> {
+        let mut page = Vec::from_elem(self.heap, b'.', size)?;
+        let answer = say(&self.tree, self.language, page.as_mut_slice(), start);
+        expect(answer == Err(fault), "another answer than the fault")?;
+        expect(
+            page.iter().all(|byte| *byte == b'.'),
+            "the page has changed",
+        )
+    }
 
-// The tree of the code has this first mute node.
-fn check_node<'a, L: Language>(
-    heap: Global,
-    language: &L,
-    signature: &'a SignatureTable,
-    code: &'a [u8],
-    node: usize,
-) -> Result<(), Fail> {
-    let tree = TreeCode::read(signature, code)?;
-    check_mute(heap, language, &tree, node)
+    // The text is granted on a page of its size and on a larger one, and refused on pages that are one byte short.
+    fn expect_said(&self, text: &[u8]) -> Result<(), Fail> {
+        let length = text.len();
+        self.expect_granted(text, 0, 0)?;
+        self.expect_granted(text, 3, 2)?;
+        if length > 0 {
+            self.expect_refused(length - 1, 0, SayFault::NoRoom { length })?;
+        }
+        self.expect_refused(length.saturating_add(3), 4, SayFault::NoRoom { length })
+    }
+
+    // The mute node is told wherever the tree would begin.
+    fn expect_mute(&self, node: usize) -> Result<(), Fail> {
+        self.expect_refused(64, 0, SayFault::Mute { node })?;
+        self.expect_refused(2, 3, SayFault::Mute { node })
+    }
 }
 
 // The code is refused, since its root has another category than the start.
-fn check_elsewhere<'a>(signature: &'a SignatureTable, code: &'a [u8]) -> Result<(), Fail> {
+fn expect_elsewhere(signature: &SignatureTable, code: &[u8]) -> Result<(), Fail> {
     let fault = TreeCode::read(signature, code).err();
     expect(
         fault == Some(TreeFault::WrongNode { byte: 0 }),
@@ -157,48 +126,32 @@ fn check_elsewhere<'a>(signature: &'a SignatureTable, code: &'a [u8]) -> Result<
     )
 }
 
-// What is said of a tree of the start category is what was built; answers whether it has a text.
-fn check_built<L: Language>(
-    heap: Global,
-    language: &L,
-    signature: &SignatureTable,
-    built: &Built,
-) -> Result<bool, Fail> {
-    match &built.outcome {
-        Outcome::Said { strings, .. } => {
-            let text = strings.get(0).ok_or("no constituent")?;
-            check_text(
-                heap,
-                language,
-                signature,
-                built.code.as_slice(),
-                text.as_slice(),
-            )?;
-            Ok(true)
-        }
-        Outcome::Mute { node } => {
-            check_node(heap, language, signature, built.code.as_slice(), *node)?;
-            Ok(false)
-        }
-    }
-}
-
 // Goes through all trees up to the depth; answers how many of the start category have a text, and how many have none.
 fn compare<L: Language>(heap: Global, language: &L, depth: u8) -> Result<(usize, usize), Fail> {
     let signature = SignatureTable::of(language);
-    let mut said: usize = 0;
-    let mut mute: usize = 0;
+    let start = language.start();
     let trees = build_trees(heap, language, depth)?;
     for built in trees.iter() {
-        if built.category != language.start() {
-            check_elsewhere(&signature, built.code.as_slice())?;
-        } else if check_built(heap, language, &signature, built)? {
-            said = said.saturating_add(1);
-        } else {
-            mute = mute.saturating_add(1);
+        let code = built.code.as_slice();
+        if built.category != start {
+            expect_elsewhere(&signature, code)?;
+            continue;
+        }
+        let trial = Trial::of_code(heap, language, &signature, code)?;
+        match &built.outcome {
+            Ok(said) => {
+                trial.expect_said(said.strings.get(0).ok_or("no constituent")?.as_slice())?;
+            }
+            Err(mute) => trial.expect_mute(mute.node)?,
         }
     }
-    Ok((said, mute))
+    let said = trees
+        .iter()
+        .filter(|built| built.category == start && built.outcome.is_ok());
+    let mute = trees
+        .iter()
+        .filter(|built| built.category == start && built.outcome.is_err());
+    Ok((said.count(), mute.count()))
 }
 
 #[test]
@@ -206,13 +159,8 @@ fn texts_by_hand(rt: HostRuntime) -> Result<(), Fail> {
     let heap = rt.alloc();
     for (grammar, code, text) in TEXTS {
         let language = make_language(heap, grammar)?;
-        check_text(
-            heap,
-            &language,
-            &SignatureTable::of(&language),
-            code,
-            text.as_bytes(),
-        )?;
+        let signature = SignatureTable::of(&language);
+        Trial::of_code(heap, &language, &signature, code)?.expect_said(text.as_bytes())?;
     }
     Ok(())
 }
@@ -223,7 +171,7 @@ fn mute_nodes_by_hand(rt: HostRuntime) -> Result<(), Fail> {
     let language = make_language(heap, grammars::FORMS)?;
     let signature = SignatureTable::of(&language);
     for (code, node) in MUTE {
-        check_node(heap, &language, &signature, code, node)?;
+        Trial::of_code(heap, &language, &signature, code)?.expect_mute(node)?;
     }
     Ok(())
 }
@@ -262,35 +210,27 @@ fn all_trees_of_layers(rt: HostRuntime) -> Result<(), Fail> {
     assert!(rt; hiding.hide(1));
     assert_eq!(rt; compare(heap, &hiding, 3)?, (5, 33));
     let signature = SignatureTable::of(&hiding);
-    check_text(
-        heap,
-        hiding.below(),
-        &signature,
-        &[2, 0, 1],
-        "hål og hål".as_bytes(),
-    )?;
-    check_text(
-        heap,
-        &Notation::of(&hiding),
-        &signature,
-        &[2, 0, 1],
-        b"f2 ( f0 , f1 )",
-    )?;
-    check_node(heap, &hiding, &signature, &[2, 0, 1], 2)
+    let notation = Notation::of(&hiding);
+    let code = [2, 0, 1];
+    Trial::of_code(heap, hiding.below(), &signature, &code)?.expect_said("hål og hål".as_bytes())?;
+    Trial::of_code(heap, &notation, &signature, &code)?.expect_said(b"f2 ( f0 , f1 )")?;
+    Trial::of_code(heap, &hiding, &signature, &code)?.expect_mute(2)
 }
 
 #[test]
 fn other_signatures(rt: HostRuntime) -> Result<(), Fail> {
     let heap = rt.alloc();
     let language = make_language(heap, grammars::SHORT)?;
+    let speechless = make_language(heap, grammars::SPEECHLESS)?;
     let signature = SignatureTable::of(&language);
-    let tree = TreeCode::read(&signature, &[0, 1])?;
-    check_said(heap, &language, &tree, b"a a")?;
-    check_mute(heap, &make_language(heap, grammars::SPEECHLESS)?, &tree, 1)?;
+    let code = [0, 1];
+    Trial::of_code(heap, &language, &signature, &code)?.expect_said(b"a a")?;
+    Trial::of_code(heap, &speechless, &signature, &code)?.expect_mute(1)?;
     for grammar in grammars::OTHERS {
         let other = make_language(heap, grammar)?;
-        check_refused(heap, &other, &tree, 8, 0, SayFault::OtherSignature)?;
-        check_refused(heap, &other, &tree, 2, 3, SayFault::OtherSignature)?;
+        let trial = Trial::of_code(heap, &other, &signature, &code)?;
+        trial.expect_refused(8, 0, SayFault::OtherSignature)?;
+        trial.expect_refused(2, 3, SayFault::OtherSignature)?;
     }
     Ok(())
 }

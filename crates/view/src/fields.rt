@@ -1,5 +1,5 @@
 // The fields of an image, each read where the layout has it.
-ghost use Rattle.std.specs.Prelude.{◌≡◌, ◌+◌, ◌^◌, ◌<◌, ◌≤◌, length};
+ghost use Rattle.std.specs.Prelude.{◌≡◌, ◌+◌, ◌^◌, ◌<◌, ◌≤◌, length, take, drop};
 ghost use Rattle.view.specs.Grammar.{key};
 ghost use Rattle.view.specs.Layout.{byte, pair, categories, functions, start, words, rules, symbols, spelled, dimension, function_at, result as result_of, arity, argument as argument_of, word_at, word_offset, word_length, spelled_from, spelling, rule_at, rule_function, argument_form, result_form, first_symbol, symbol_count, rule_arity, rule_dimension, symbol_bits, total};
 ghost use Rattle.view.specs.Views.{image};
@@ -10,7 +10,15 @@ use super::ImageView;
 fn byte_at(bytes: &[u8], index: usize) -> u8
     ensures { result ≡ byte bytes.now index }
 {
-    if index < bytes.len() { bytes[index] } else { 0 }
+    bytes.get(index).copied().unwrap_or(0)
+}
+
+// So many bytes from that place on, or as many as there are.
+pub(crate) fn bytes_at(bytes: &[u8], index: usize, count: usize) -> &[u8]
+    ensures { result.now ≡ take count (drop index bytes.now) }
+{
+    let rest = bytes.get(index..).unwrap_or(&[]);
+    rest.get(..count).unwrap_or(rest)
 }
 
 // The 16 bits from that place on.
@@ -18,7 +26,7 @@ fn pair_at(bytes: &[u8], index: usize) -> u16
     requires { index < 2 ^ 40 }
     ensures { result ≡ pair bytes.now index }
 {
-    byte_at(bytes, index) as u16 + 256 * byte_at(bytes, index + 1) as u16
+    u16::from_le_bytes([byte_at(bytes, index), byte_at(bytes, index + 1)])
 }
 
 impl<'a> ImageView<'a> {
@@ -26,11 +34,11 @@ impl<'a> ImageView<'a> {
     pub fn new(bytes: &'a [u8]) -> ImageView<'a>
         ensures { image result ≡ bytes.now }
     {
-        let functions_at = 16 + byte_at(bytes, 5) as usize;
-        let words_at = functions_at + 5 * byte_at(bytes, 6) as usize;
-        let rules_at = words_at + 3 * pair_at(bytes, 8) as usize;
-        let symbols_at = rules_at + 17 * pair_at(bytes, 10) as usize;
-        let spelled_at = symbols_at + 2 * pair_at(bytes, 12) as usize;
+        let functions_at = 16 + usize::from(byte_at(bytes, 5));
+        let words_at = functions_at + 5 * usize::from(byte_at(bytes, 6));
+        let rules_at = words_at + 3 * usize::from(pair_at(bytes, 8));
+        let symbols_at = rules_at + 17 * usize::from(pair_at(bytes, 10));
+        let spelled_at = symbols_at + 2 * usize::from(pair_at(bytes, 12));
         ImageView {
             bytes,
             functions_at,
@@ -108,14 +116,14 @@ impl<'a> ImageView<'a> {
     pub fn total(&self) -> usize
         ensures { result ≡ total (image self.now) }
     {
-        self.spelled_at + self.spelled() as usize
+        self.spelled_at + usize::from(self.spelled())
     }
 
     // How many constituents a phrase of the category has.
     pub fn dimension(&self, category: u8) -> u8
         ensures { result ≡ dimension (image self.now) category }
     {
-        self.byte(16 + category as usize)
+        self.byte(16 + usize::from(category))
     }
 
     // Where the function's five bytes begin.
@@ -123,7 +131,7 @@ impl<'a> ImageView<'a> {
         ensures place { result ≡ function_at (image self.now) function }
         ensures low { result < 2 ^ 22 }
     {
-        self.functions_at + 5 * function as usize
+        self.functions_at + 5 * usize::from(function)
     }
 
     pub fn result(&self, function: u8) -> u8
@@ -142,7 +150,7 @@ impl<'a> ImageView<'a> {
     pub fn argument(&self, function: u8, argument: u16) -> u8
         ensures { result ≡ argument_of (image self.now) function argument }
     {
-        self.byte(self.function_at(function) + 2 + argument as usize)
+        self.byte(self.function_at(function) + 2 + usize::from(argument))
     }
 
     // Where the word's three bytes begin.
@@ -150,7 +158,7 @@ impl<'a> ImageView<'a> {
         ensures place { result ≡ word_at (image self.now) word }
         ensures low { result < 2 ^ 22 }
     {
-        self.words_at + 3 * word as usize
+        self.words_at + 3 * usize::from(word)
     }
 
     pub fn word_offset(&self, word: u16) -> u16
@@ -169,10 +177,8 @@ impl<'a> ImageView<'a> {
     pub fn spelling(&self, word: u16) -> &'a [u8]
         ensures { result.now ≡ spelling (image self.now) word }
     {
-        let from = self.spelled_at + self.word_offset(word) as usize;
-        let to = from + self.word_length(word) as usize;
-        let end = self.bytes.len();
-        &self.bytes[from.min(end)..to.min(end)]
+        let from = self.spelled_at + usize::from(self.word_offset(word));
+        bytes_at(self.bytes, from, usize::from(self.word_length(word)))
     }
 
     // Where the rule's 17 bytes begin.
@@ -180,7 +186,7 @@ impl<'a> ImageView<'a> {
         ensures place { result ≡ rule_at (image self.now) rule }
         ensures low { result < 2 ^ 22 }
     {
-        self.rules_at + 17 * rule as usize
+        self.rules_at + 17 * usize::from(rule)
     }
 
     pub fn rule_function(&self, rule: u16) -> u8
@@ -192,7 +198,7 @@ impl<'a> ImageView<'a> {
     pub fn argument_form(&self, rule: u16, argument: u8) -> u8
         ensures { result ≡ argument_form (image self.now) rule argument }
     {
-        self.byte(self.rule_at(rule) + 1 + argument as usize)
+        self.byte(self.rule_at(rule) + 1 + usize::from(argument))
     }
 
     pub fn result_form(&self, rule: u16) -> u8
@@ -205,14 +211,14 @@ impl<'a> ImageView<'a> {
     pub fn first_symbol(&self, rule: u16, constituent: u8) -> u16
         ensures { result ≡ first_symbol (image self.now) rule constituent }
     {
-        self.pair(self.rule_at(rule) + 5 + 3 * constituent as usize)
+        self.pair(self.rule_at(rule) + 5 + 3 * usize::from(constituent))
     }
 
     // How many symbols the constituent has.
     pub fn symbol_count(&self, rule: u16, constituent: u8) -> u8
         ensures { result ≡ symbol_count (image self.now) rule constituent }
     {
-        self.byte(self.rule_at(rule) + 7 + 3 * constituent as usize)
+        self.byte(self.rule_at(rule) + 7 + 3 * usize::from(constituent))
     }
 
     // The arity of the rule's function.
@@ -234,17 +240,13 @@ impl<'a> ImageView<'a> {
         ensures { result ≡ key (image self.now) rule }
     {
         let at = self.rule_at(rule);
-        [
-            self.byte(at),
-            self.byte(at + 1),
-            self.byte(at + 2),
-            self.byte(at + 3),
-        ]
+        std::array::from_fn(|place| self.byte(at + place))
     }
 
     pub fn symbol_bits(&self, symbol: u32) -> u16
         ensures { result ≡ symbol_bits (image self.now) symbol }
     {
+        // `as`, since std has no From<u32> for usize.
         self.pair(self.symbols_at + 2 * symbol as usize)
     }
 }

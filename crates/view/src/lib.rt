@@ -7,7 +7,8 @@ ghost use Rattle.view.specs.Layout.{functions_from, words_from, rules_from, symb
 mod fields;
 mod parts;
 
-// The image is not owned, and need not be sound: a byte that is not there reads as 0.
+// The image is not owned, and need not be sound: a byte that is not there reads as 0. Where the sections begin is kept beside the bytes, so that no
+// reading adds up the head again; the ghost fields say that it follows from them.
 #[derive(Clone, Copy)]
 pub struct ImageView<'a> {
     bytes: &'a [u8],

@@ -1,3 +1,4 @@
 pub mod Together
 pub mod Standing
 pub mod Symbols
+pub mod Inclusive

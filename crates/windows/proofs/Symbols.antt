@@ -7,7 +7,6 @@ use Rattle.std.proofs.lemmas.Option.{slice_get-get_or}
 use Rattle.grammar.specs.declared.symbol.Symbol.{Symbol}
 use Rattle.grammar.specs.declared.symbol.Symbol.TheVariants.{Word, Reference}
 use Rattle.grammar.specs.declared.symbol.Window.{Window}
-use Rattle.grammar.specs.declared.symbol.Window.TheVariants.{Outside}
 use Rattle.grammar.specs.Charts.{Item}
 use Rattle.grammar.specs.Languages.{Lawful, Meaning, Words}
 use Rattle.grammar.specs.Questions.{sequence_answer, symbol_answer}
@@ -43,26 +42,26 @@ word_found phrase words n i p =
     ap (option_map one_word) p.2.there ∙ ap (λ w. Some (w ∷ [])) (sym same)
 
 -- and one that stands nowhere is in no string that occurs
-pub word_nowhere : (phrase words : Words) (n : ℕ) → n < length words → PlaceOf phrase (slice_get words n) None → (before : Option Words) → IsWindowOf phrase (put_together before (Some (get_or words n [] ∷ []))) Outside
+pub word_nowhere : (phrase words : Words) (n : ℕ) → n < length words → PlaceOf phrase (slice_get words n) None → (before : Option Words) → IsWindowOf phrase (put_together before (Some (get_or words n [] ∷ []))) None
 word_nowhere phrase words n lt p None = refl
 word_nowhere phrase words n lt p (Some s) = λ j o.
     p (get_or words n []) (slice_get-get_or words n [] lt) (j + length s) (word_there phrase (get_or words n []) (j + length s) (occurs_back phrase s (get_or words n [] ∷ []) j o))
 
 -- three arguments, each at its number, and four windows, each at its constituent's
-at_argument : (items : List Item) (a : ℕ) (d : List Window) → a < 3 → get_or (argument_windows items) a d ≡ item_windows (get_or items a nothing_shown)
+at_argument : (items : List Item) (a : ℕ) (d : List (Option Window)) → a < 3 → get_or (argument_windows items) a d ≡ item_windows (get_or items a nothing_shown)
 at_argument items zero d lt = refl
 at_argument items (suc zero) d lt = refl
 at_argument items (suc (suc zero)) d lt = refl
 at_argument items (suc (suc (suc a))) d lt = absurd (omega arith)
 
-at_window : (i : Item) (k : ℕ) (d : Window) → k < 4 → get_or (item_windows i) k d ≡ window_of i k
+at_window : (i : Item) (k : ℕ) (d : Option Window) → k < 4 → get_or (item_windows i) k d ≡ window_of i k
 at_window i zero d lt = refl
 at_window i (suc zero) d lt = refl
 at_window i (suc (suc zero)) d lt = refl
 at_window i (suc (suc (suc zero))) d lt = refl
 at_window i (suc (suc (suc (suc k)))) d lt = absurd (omega arith)
 
-pub argument_window : (items : List Item) (arguments : List (List Window)) (a k : ℕ) (d : List Window) (e : Window) → a < 3 → k < 4 → arguments ≡ argument_windows items → get_or (get_or arguments a d) k e ≡ window_of (get_or items a nothing_shown) k
+pub argument_window : (items : List Item) (arguments : List (List (Option Window))) (a k : ℕ) (d : List (Option Window)) (e : Option Window) → a < 3 → k < 4 → arguments ≡ argument_windows items → get_or (get_or arguments a d) k e ≡ window_of (get_or items a nothing_shown) k
 argument_window items arguments a k d e few four same =
     ap (λ rows. get_or (get_or rows a d) k e) same ∙ ap (λ row. get_or row k e) (at_argument items a d few) ∙ at_window (get_or items a nothing_shown) k e four
 
@@ -77,9 +76,9 @@ module _ (m : Meaning) (phrase : Words) (items : List Item) (xs : List Symbol) (
       ∙ ap (put_together (sequence_string m phrase items (take i xs))) (together_empty (symbol_string m phrase items x))
 
   -- what does not occur with one symbol more does not occur with all of them
-  pub symbol_outside : IsWindowOf phrase (put_together (sequence_string m phrase items (take i xs)) (symbol_string m phrase items x)) Outside → IsWindowOf phrase (sequence_string m phrase items xs) Outside
+  pub symbol_outside : IsWindowOf phrase (put_together (sequence_string m phrase items (take i xs)) (symbol_string m phrase items x)) None → IsWindowOf phrase (sequence_string m phrase items xs) None
   symbol_outside out =
       let front = take (i + 1) xs in
       let rest = drop (i + 1) xs in
-      subst (λ o. IsWindowOf phrase o Outside) (sym (sequence_append m phrase items front rest) ∙ ap (sequence_string m phrase items) (take-append-drop (i + 1) xs))
-      (outside_more phrase (sequence_string m phrase items front) (sequence_string m phrase items rest) (subst (λ o. IsWindowOf phrase o Outside) (sym symbol_more) out))
+      subst (λ o. IsWindowOf phrase o None) (sym (sequence_append m phrase items front rest) ∙ ap (sequence_string m phrase items) (take-append-drop (i + 1) xs))
+      (outside_more phrase (sequence_string m phrase items front) (sequence_string m phrase items rest) (subst (λ o. IsWindowOf phrase o None) (sym symbol_more) out))

@@ -6,7 +6,6 @@ use Rattle.std.proofs.lemmas.List.{append_assoc, append-nil, get_or-drop, length
 use Rattle.std.proofs.lemmas.Option.{slice_get-get_or}
 use Rattle.grammar.proofs.Optional.{none_some}
 use Rattle.grammar.specs.declared.symbol.Symbol.{Symbol}
-use Rattle.grammar.specs.declared.symbol.Window.TheVariants.{Outside}
 use Rattle.grammar.specs.Charts.{Item, Occurs}
 use Rattle.grammar.specs.Languages.{Meaning, Spelling, Words}
 use Rattle.congruence.specs.NodeItems.{IsWindowOf, put_together, sequence_string, symbol_string}
@@ -29,7 +28,7 @@ empty_together None = refl
 empty_together (Some x) = refl
 
 -- a string that does not occur is in no string that does
-pub outside_more : (phrase : Words) (o p : Option Words) → IsWindowOf phrase o Outside → IsWindowOf phrase (put_together o p) Outside
+pub outside_more : (phrase : Words) (o p : Option Words) → IsWindowOf phrase o None → IsWindowOf phrase (put_together o p) None
 outside_more phrase None p h = refl
 outside_more phrase (Some s) None h = refl
 outside_more phrase (Some s) (Some t) h = λ j at. h j (occurs_front phrase s t j at)
@@ -65,10 +64,10 @@ one_word_each phrase (j ∷ is) s e =
     omega (arith, ap length p.4, one_word_each phrase is p.1 p.3)
 
 -- past as many places as the phrase has words, one more is too many
-pub no_room : (phrase : Words) (is : List ℕ) (i : ℕ) → length phrase ≤ length is → IsWindowOf phrase (put_together (words_at phrase is) (word_at phrase i)) Outside
+pub no_room : (phrase : Words) (is : List ℕ) (i : ℕ) → length phrase ≤ length is → IsWindowOf phrase (put_together (words_at phrase is) (word_at phrase i)) None
 no_room phrase is i full = by (words_at phrase is) (slice_get phrase i) refl
   where
-    by : (o : Option Words) (w : Option Spelling) → words_at phrase is ≡ o → IsWindowOf phrase (put_together o (option_map one_word w)) Outside
+    by : (o : Option Words) (w : Option Spelling) → words_at phrase is ≡ o → IsWindowOf phrase (put_together o (option_map one_word w)) None
     by None w e = refl
     by (Some s) None e = refl
     by (Some s) (Some w) e = too_long phrase (s ++ w ∷ []) (omega (arith, one_word_each phrase is s e, length-append s (w ∷ [])))
@@ -89,10 +88,10 @@ module _ (phrase : Words) (before : Option Words) (i k : ℕ) (now : Option Word
       ∙ ap (λ t. put_together before (Some t)) (take_all k (drop i phrase) (omega (arith, length-drop i phrase)) ∙ sym (take_all (k + 1) (drop i phrase) (omega (arith, length-drop i phrase))))
 
   -- one word of the part too many is enough
-  pub part_outside : (n : ℕ) → k < n → i + k < length phrase → IsWindowOf phrase (put_together now (word_at phrase (i + k))) Outside → IsWindowOf phrase (put_together before (Some (take n (drop i phrase)))) Outside
+  pub part_outside : (n : ℕ) → k < n → i + k < length phrase → IsWindowOf phrase (put_together now (word_at phrase (i + k))) None → IsWindowOf phrase (put_together before (Some (take n (drop i phrase)))) None
   part_outside n le lt out =
       let front = take (k + 1) (drop i phrase) in
       let rest = drop (k + 1) (take n (drop i phrase)) in
       let whole : front ++ rest ≡ take n (drop i phrase) = ap (λ t. t ++ rest) (sym (take-take (k + 1) n (drop i phrase) (omega arith))) ∙ take-append-drop (k + 1) (take n (drop i phrase)) in
-      subst (λ o. IsWindowOf phrase o Outside) (together_assoc before (Some front) (Some rest) ∙ ap (λ t. put_together before (Some t)) whole)
-      (outside_more phrase (put_together before (Some front)) (Some rest) (subst (λ o. IsWindowOf phrase o Outside) (part_more lt) out))
+      subst (λ o. IsWindowOf phrase o None) (together_assoc before (Some front) (Some rest) ∙ ap (λ t. put_together before (Some t)) whole)
+      (outside_more phrase (put_together before (Some front)) (Some rest) (subst (λ o. IsWindowOf phrase o None) (part_more lt) out))

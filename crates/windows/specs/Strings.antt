@@ -1,11 +1,12 @@
--- Strings as places of a phrase: the words that stand there, and what is added to them.
-use Rattle.std.specs.Prelude.{◌≡◌, ℕ, ◌+◌, ◌<◌, ◌≤◌, Bool, true, false, List, [], ◌∷◌, ◌++◌, length, take, Some, Option, slice_index}
+-- Strings as places of a phrase that they hold: the words that stand there, and what is added to them.
+use Rattle.std.specs.Prelude.{◌≡◌, ℕ, ◌+◌, ◌<◌, ◌≤◌, List, [], ◌∷◌, ◌++◌, length, Some, None, Option, slice_index}
 use Rattle.std.specs.List.{slice_get}
 use Rattle.std.specs.Option.{option_map}
-use Rattle.grammar.specs.declared.symbol.Window.TheVariants.{Outside}
+use Rattle.tables.specs.Held.{held}
 use Rattle.grammar.specs.Languages.{Spelling, Words}
 use Rattle.congruence.specs.NodeItems.{IsWindowOf, put_together}
 use Rattle.phrase.specs.Places.{SameAt}
+use Rattle.phrase.specs.Spelled.{words_of}
 use Rattle.windows.specs.declared.places.Places.{Places}
 
 abbrev pub one_word : Spelling → Words
@@ -21,21 +22,25 @@ words_at phrase [] = Some []
 words_at phrase (i ∷ is) = put_together (word_at phrase i) (words_at phrase is)
 
 abbrev pub places_of : Places → List ℕ
-places_of p = take p.count p.at
+places_of p = held p.at
 
-abbrev pub string_of : Words → Places → Option Words
-string_of phrase p = words_at phrase (places_of p)
+-- the words of the phrase that a string holds
+abbrev pub phrase_of : Places → Words
+phrase_of p = words_of p.phrase.now
+
+abbrev pub string_of : Places → Option Words
+string_of p = words_at (phrase_of p) (places_of p)
 
 -- a place is added while there are fewer than n
-abbrev pub Pushed : ℕ → List ℕ → ℕ → Bool → List ℕ → Type 0
-Pushed n before i true after = (length before < n) × (after ≡ before ++ i ∷ [])
-Pushed n before i false after = (n ≤ length before) × (after ≡ before)
+abbrev pub Pushed : ℕ → List ℕ → ℕ → Option (Unit {0}) → List ℕ → Type 0
+Pushed n before i (Some done) after = (length before < n) × (after ≡ before ++ i ∷ [])
+Pushed n before i None after = (n ≤ length before) × (after ≡ before)
 
 -- a string is added at the end of what was there; or the two together do not occur in the phrase
-abbrev pub Added : Words → Option Words → Option Words → Bool → Option Words → Type 0
-Added phrase before new true after = after ≡ put_together before new
-Added phrase before new false after = IsWindowOf phrase (put_together before new) Outside
+abbrev pub Added : Places → Option Words → Option (Unit {0}) → Places → Type 0
+Added before new (Some done) after = string_of after ≡ put_together (string_of before) new
+Added before new None after = IsWindowOf (phrase_of before) (put_together (string_of before) new) None
 
 -- the phrase has the words of the places from place s on
-abbrev pub SameFrom : Words → List ℕ → ℕ → Type 0
-SameFrom phrase is s = (k : ℕ) → k < length is → SameAt phrase (s + k) (slice_index is k)
+pub record SameFrom (phrase : Words) (is : List ℕ) (s : ℕ) : Type 0 where
+  pub same : (k : ℕ) → k < length is → SameAt phrase (s + k) (slice_index is k)

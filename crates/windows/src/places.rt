@@ -1,14 +1,13 @@
-// A string of words that is being put together, as places of a phrase.
-ghost use Rattle.std.specs.Prelude.{◌≡◌, ◌≤◌, length};
+// A string of words that is being put together, as places of a phrase that it holds.
+use phrase::words::{MOST_WORDS, Phrase};
+use tables::Table;
 
 mod adding;
 mod finding;
 
-// The first `count` of `at` are places of the phrase, and the string is the words there, from left to right.
+// The string is the words at these places of the phrase, from left to right.
 #[derive(Clone, Copy)]
-pub struct Places {
-    at: [u8; 32],
-    count: usize,
-    ghost sized: { length at ≡ 32 },
-    ghost within: { count ≤ 32 },
+pub struct Places<'a> {
+    pub(crate) phrase: &'a Phrase<'a>,
+    at: Table<u8, MOST_WORDS>,
 }

@@ -6,64 +6,61 @@ ghost use Rattle.congruence.specs.NodeItems.{IsWindowOf, sequence_string, symbol
 ghost use Rattle.measure.specs.Sums.{or_no_symbols};
 ghost use Rattle.phrase.specs.Spelled.{words_of};
 ghost use Rattle.windows.specs.Sequences.{argument_windows, Named};
-ghost use Rattle.windows.specs.Strings.{Added, string_of};
+ghost use Rattle.windows.specs.Strings.{Added, phrase_of};
 
 use crate::places::Places;
 use grammar::language::Language;
-use grammar::symbol::{Symbol, Window};
+use grammar::symbol::{RuleKey, Symbol, Window};
 use phrase::words::Phrase;
 
-// A word of the language, by its number; false if it is not in the phrase, or the string would be longer than the phrase.
-fn push_word<L: Language>(places: &mut Places, language: &L, phrase: &Phrase, word: u16) -> bool
+// A word of the language, by its number; nothing if it is not in the phrase, or the string would be longer than the phrase.
+fn push_word<L: Language>(places: &mut Places, language: &L, word: u16) -> Option<()>
     requires { word < length (L.meaning language.now).words }
-    ensures { Added (words_of phrase.now) (string_of (words_of phrase.now) places.old) (Some (slice_index_or (L.meaning language.now).words word [] ∷ [])) result (string_of (words_of phrase.now) places.new) }
+    ensures kept { places.new.phrase ≡ places.old.phrase }
+    ensures added { Added places.old (Some (slice_index_or (L.meaning language.now).words word [] ∷ [])) result places.new }
 {
-    match phrase.place_of(language, word) {
-        Some(place) => places.push(phrase, place),
-        None => false,
-    }
+    places.push(places.phrase.place_of(language, word)?)
 }
 
-// What a symbol puts down.
+// What a symbol puts down; nothing if that does not occur, or the string would be longer than the phrase.
 fn push_symbol<L: Language>(
     places: &mut Places,
     language: &L,
-    phrase: &Phrase,
-    arguments: &[[Window; 4]; 3],
+    arguments: &[[Option<Window>; 4]; 3],
     symbol: Symbol,
-) -> bool
+) -> Option<()>
     requires { Named (L.meaning language.now) symbol }
-    ensures { (items : List Item) → arguments.now ≡ argument_windows items → Added (words_of phrase.now) (string_of (words_of phrase.now) places.old) (symbol_string (L.meaning language.now) (words_of phrase.now) items symbol) result (string_of (words_of phrase.now) places.new) }
+    ensures kept { places.new.phrase ≡ places.old.phrase }
+    ensures added { (items : List Item) → arguments.now ≡ argument_windows items → Added places.old (symbol_string (L.meaning language.now) (phrase_of places.old) items symbol) result places.new }
 {
+    // `as`: argument and constituent are indices here, and nothing else is made of them.
     match symbol {
-        Symbol::Word(word) => push_word(places, language, phrase, word),
+        Symbol::Word(word) => push_word(places, language, word),
         Symbol::Reference {
             argument,
             constituent,
-        } => places.push_window(phrase, arguments[argument as usize][constituent as usize]),
+        } => places.push_window(arguments[argument as usize][constituent as usize]),
     }
 }
 
-// The window of constituent `constituent` by the rule that the question names, from the windows of three arguments.
+// The window of constituent `constituent` by the rule that the key names, from the windows of three arguments.
 pub fn sequence_window<L: Language>(
     language: &L,
     phrase: &Phrase,
-    function: u8,
-    forms: [u8; 3],
+    key: RuleKey,
     constituent: u8,
-    arguments: &[[Window; 4]; 3],
-) -> Window
-    ensures { (items : List Item) → arguments.now ≡ argument_windows items → IsWindowOf (words_of phrase.now) (sequence_string (L.meaning language.now) (words_of phrase.now) items (or_no_symbols (sequence_answer (L.meaning language.now) function forms constituent))) result }
+    arguments: &[[Option<Window>; 4]; 3],
+) -> Option<Window>
+    ensures { (items : List Item) → arguments.now ≡ argument_windows items → IsWindowOf (words_of phrase.now) (sequence_string (L.meaning language.now) (words_of phrase.now) items (or_no_symbols (sequence_answer (L.meaning language.now) key.function key.forms constituent))) result }
 {
-    let mut places = Places::new();
-    if let Some(count) = language.sequence_length(function, forms, constituent) {
+    let mut places = Places::new(phrase);
+    if let Some(count) = language.sequence_length(key, constituent) {
+        // By number, as a language is asked: no slice of its symbols can be lent.
         for index in 0..count {
-            if let Some(symbol) = language.symbol(function, forms, constituent, index) {
-                if !push_symbol(&mut places, language, phrase, arguments, symbol) {
-                    return Window::Outside;
-                }
+            if let Some(symbol) = language.symbol(key, constituent, index) {
+                push_symbol(&mut places, language, arguments, symbol)?;
             }
         }
     }
-    places.find(phrase)
+    places.find()
 }

@@ -38,13 +38,14 @@ put_on_page page start text {part = part} front =
     simp (zero-add, take_rest) (drop-drop (length text) start page) in
     ap (λ more. take start page ++ (part ++ more)) past ∙ ap (λ bytes. take start page ++ bytes) (append-nil part ∙ front ∙ ap (λ more. text ++ more) rest)
 
-pub grown_none : (started : Bool) (before after : WordWriter) → after.used ≡ before.used → after.part.now ≡ before.part.now → after.started ≡ started → Grown [] started before after
-grown_none started before after used part begun =
+pub grown_none : (started : Bool) (before after : WordWriter) → after.part.ghost_name ≡ before.part.ghost_name → after.used ≡ before.used → after.part.now ≡ before.part.now → after.started ≡ started → Grown [] started before after
+grown_none started before after lender used part begun =
     record {
       fits = omega (arith, before.within);
       used = omega arith;
       part = part ∙ sym (put_none before.part.now before.used);
       begun = begun;
+      lender = lender;
     }
 
 -- a part keeps its length
@@ -64,13 +65,14 @@ module _ (first later : List ℕ) {begun : Bool} {before between : WordWriter} (
         used = simp length-append (omega (arith, one.used, two.used));
         part = two.part ∙ (λ i. put_down (one.part i) (one.used i) later) ∙ put_more before.part.now before.used first later one.fits;
         begun = two.begun;
+        lender = two.lender ∙ one.lender;
       }
 
   -- the same where the later bytes begin no word
   pub grown_on : {after : WordWriter} → Grown later between.started between after → Grown (first ++ later) begun before after
   grown_on two =
       let all = grown_more two in
-      record { fits = all.fits; used = all.used; part = all.part; begun = all.begun ∙ one.begun }
+      record { fits = all.fits; used = all.used; part = all.part; begun = all.begun ∙ one.begun; lender = all.lender }
 
 -- bytes that fit are put down
 pub put_fits : (more : List ℕ) (started : Bool) (before after : WordWriter) (r : Bool) → Puts more started before r after → before.used + length more ≤ length before.part.now → Grown more started before after

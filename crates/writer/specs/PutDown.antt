@@ -14,12 +14,14 @@ put_down bytes place more = take place bytes ++ (more ++ drop (place + length mo
 abbrev pub gap : WordWriter → List ℕ
 gap w = cond w.started (blank ∷ []) []
 
--- the writer has put these bytes down after what it had written, and every other byte stays; `started` tells whether a word is begun
+-- the writer has put these bytes down after what it had written, and every other byte stays, as does whose bytes they are; `started` tells whether a
+-- word is begun
 pub record Grown (more : List ℕ) (started : Bool) (before after : WordWriter) : Type 0 where
   pub fits : before.used + length more ≤ length before.part.now
   pub used : after.used ≡ before.used + length more
   pub part : after.part.now ≡ put_down before.part.now before.used more
   pub begun : after.started ≡ started
+  pub lender : after.part.ghost_name ≡ before.part.ghost_name
 
 -- these bytes do not fit, and nothing is changed
 pub record Full (more : List ℕ) (before after : WordWriter) : Type 0 where
@@ -27,6 +29,7 @@ pub record Full (more : List ℕ) (before after : WordWriter) : Type 0 where
   pub used : after.used ≡ before.used
   pub part : after.part.now ≡ before.part.now
   pub begun : after.started ≡ before.started
+  pub lender : after.part.ghost_name ≡ before.part.ghost_name
 
 -- true where the bytes are put down, false where they do not fit
 abbrev pub Puts : List ℕ → Bool → WordWriter → Bool → WordWriter → Type 0

@@ -9,6 +9,8 @@ mod words;
 pub use self::page::write_words;
 
 // Puts words down in a lent part of a page, from its front: `used` bytes are written, and `started` says whether a word was begun.
+// A rule of the project lends it the part. Its methods answer `bool`, as a set's `insert` does: no value stands beside the yes or no, which a caller that has
+// made room does not ask for.
 #[derive(Drop)]
 pub struct WordWriter<'a> {
     part: &'a mut [u8],

@@ -30,8 +30,7 @@ fn text_length(words: &[&[u8]]) -> Option<usize>
 fn write_all(writer: &mut WordWriter, words: &[&[u8]])
     requires room { writer.old.used + length (spaced (spellings words.now)) ≤ length writer.old.part.now }
     requires fresh { writer.old.started ≡ false }
-    ensures lender { writer.new.part.ghost_name ≡ writer.old.part.ghost_name }
-    ensures grown { Grown (spaced (spellings words.now)) (some_words (spellings words.now)) writer.old writer.new }
+    ensures { Grown (spaced (spellings words.now)) (some_words (spellings words.now)) writer.old writer.new }
 {
     for word in words {
         writer.write_word(word);
@@ -54,6 +53,7 @@ pub fn write_words(page: &mut [u8], start: usize, words: &[&[u8]]) -> Result<usi
     let Some(length) = text_length(words) else {
         return Err(PageFault { length: usize::MAX });
     };
+    // The same test as in `say`, which tells a fault of its own.
     if start > page.len() || length > page.len() - start {
         return Err(PageFault { length });
     }

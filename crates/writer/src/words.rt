@@ -5,10 +5,9 @@ ghost use Rattle.writer.specs.PutDown.{gap, Puts, Grown};
 use crate::WordWriter;
 
 impl<'a> WordWriter<'a> {
-    // One byte more of the word that was begun; false, and nothing changed, where the part is full.
+    // One byte more of the word that was begun; false, and nothing changed, where the part is full. A `bool`, as the type says.
     pub fn put(&mut self, byte: u8) -> bool
-        ensures lender { self.new.part.ghost_name ≡ self.old.part.ghost_name }
-        ensures puts { Puts (byte ∷ []) self.old.started self.old result self.new }
+        ensures { Puts (byte ∷ []) self.old.started self.old result self.new }
     {
         if self.used == self.part.len() {
             return false;
@@ -18,10 +17,10 @@ impl<'a> WordWriter<'a> {
         true
     }
 
-    // A word begins: a blank before it, unless it is the first; false, and nothing changed, where there is no room.
+    // A word begins: a blank before it, unless it is the first; false, and nothing changed, where there is no room. A `bool`, as the type
+    // says.
     pub fn begin_word(&mut self) -> bool
-        ensures lender { self.new.part.ghost_name ≡ self.old.part.ghost_name }
-        ensures puts { Puts (gap self.old) true self.old result self.new }
+        ensures { Puts (gap self.old) true self.old result self.new }
     {
         if self.started {
             return self.put(b' ');
@@ -30,10 +29,10 @@ impl<'a> WordWriter<'a> {
         true
     }
 
-    // A whole word, with a blank before it unless it is the first; false, and nothing changed, where it does not fit.
+    // A whole word, with a blank before it unless it is the first; false, and nothing changed, where it does not fit. A `bool`, as
+    // the type says.
     pub fn write_word(&mut self, word: &[u8]) -> bool
-        ensures lender { self.new.part.ghost_name ≡ self.old.part.ghost_name }
-        ensures puts { Puts (gap self.old ++ word.now) true self.old result self.new }
+        ensures { Puts (gap self.old ++ word.now) true self.old result self.new }
     {
         if !self.has_room(word.len()) || !self.begin_word() {
             return false;
@@ -54,14 +53,13 @@ impl<'a> WordWriter<'a> {
         }
     }
 
-    // Bytes that have room, one after the other.
+    // Bytes that have room.
     fn put_all(&mut self, bytes: &[u8])
         requires { self.old.used + length bytes.now ≤ length self.old.part.now }
-        ensures lender { self.new.part.ghost_name ≡ self.old.part.ghost_name }
-        ensures grown { Grown bytes.now self.old.started self.old self.new }
+        ensures { Grown bytes.now self.old.started self.old self.new }
     {
-        for byte in bytes {
-            self.put(*byte);
-        }
+        let end = self.used + bytes.len();
+        self.part[self.used..end].copy_from_slice(bytes);
+        self.used = end;
     }
 }

@@ -1,37 +1,32 @@
 // Listing the edges of a function: every choice of an item for each argument.
-ghost use Rattle.std.specs.Prelude.{◌≡◌, ℕ, ◌+◌, ◌≤◌, List, [], ◌∷◌, map, length};
+ghost use Rattle.std.specs.Prelude.{◌≡◌, ℕ, ◌+◌, ◌≤◌, List, [], ◌∷◌, map, length, is_some};
 ghost use Rattle.chart.specs.Rows.{Chains, Filled, edge_over, listed, product};
 
 use super::{Edge, EdgeTable};
 use crate::index::Index;
-use crate::index::chains::END;
 
 impl EdgeTable {
-    // One edge more; false, and nothing changed, where all places are used.
-    pub(crate) fn push(&mut self, edge: Edge) -> bool
-        ensures { Filled (listed self.old) (edge ∷ []) result (listed self.new) }
+    // One edge more; nothing, and the table as it was, where all places are used.
+    pub(crate) fn push(&mut self, edge: Edge) -> Option<()>
+        ensures { Filled (listed self.old) (edge ∷ []) (is_some result) (listed self.new) }
     {
-        let next = self.count;
-        if next == 4096 {
-            return false;
-        }
-        self.edges[next] = edge;
-        self.count = next + 1;
-        true
+        self.edges.push(edge)?;
+        Some(())
     }
 
-    // The edges of a function over every choice of a place from each of the chains, behind the places that are chosen already.
+    // The edges of a function over every choice of a place from each of the chains, behind the places that are chosen already; nothing where some have
+    // no place.
     pub(crate) fn add_rows(
         &mut self,
         index: &Index,
         function: u8,
-        starts: &[usize],
+        starts: &[Option<usize>],
         arguments: [usize; 3],
         chosen: usize,
-    ) -> bool
+    ) -> Option<()>
         requires room { chosen + length starts.now ≤ 3 }
         requires chains { (chains : List (List ℕ)) × Chains index.now.next starts.now chains }
-        ensures { (chains : List (List ℕ)) → Chains index.now.next starts.now chains → Filled (listed self.old) (map (edge_over function arguments chosen) (product chains)) result (listed self.new) }
+        ensures { (chains : List (List ℕ)) → Chains index.now.next starts.now chains → Filled (listed self.old) (map (edge_over function arguments chosen) (product chains)) (is_some result) (listed self.new) }
     {
         let [start, rest @ ..] = starts else {
             return self.push(Edge {
@@ -40,15 +35,14 @@ impl EdgeTable {
                 result: 0,
             });
         };
-        let mut place = *start;
-        while place != END {
+        let mut next = *start;
+        // It follows a chain, and counts nothing.
+        while let Some(place) = next {
             let mut more = arguments;
             more[chosen] = place;
-            if !self.add_rows(index, function, rest, more, chosen + 1) {
-                return false;
-            }
-            place = index.after(place);
+            self.add_rows(index, function, rest, more, chosen + 1)?;
+            next = index.after(place);
         }
-        true
+        Some(())
     }
 }

@@ -3,9 +3,9 @@ ghost use Rattle.std.specs.Prelude.{◌≡◌, [], length};
 ghost use Rattle.std.specs.List.{slice_get};
 ghost use Rattle.chart.specs.Places.{held, FoundAt, PlacedAt};
 
-use super::ItemTable;
+use super::{ITEMS, ItemTable};
 use crate::item::Item;
-use grammar::symbol::Window;
+use tables::Table;
 
 impl ItemTable {
     // A table that holds nothing.
@@ -15,11 +15,10 @@ impl ItemTable {
         let unused = Item {
             category: 0,
             form: 0,
-            windows: [Window::Outside; 4],
+            windows: [None; 4],
         };
         ItemTable {
-            items: [unused; 512],
-            count: 0,
+            items: Table::new([unused; ITEMS]),
         }
     }
 
@@ -27,45 +26,30 @@ impl ItemTable {
     pub fn len(&self) -> usize
         ensures { result ≡ length (held self.now) }
     {
-        self.count
+        self.items.len()
     }
 
     // The item at a place, if there is one.
     pub fn item(&self, place: usize) -> Option<Item>
         ensures { result ≡ slice_get (held self.now) place }
     {
-        if place < self.count {
-            Some(self.items[place])
-        } else {
-            None
-        }
+        self.items.get(place)
     }
 
     // The place of an item, if it is there.
     pub fn find(&self, item: &Item) -> Option<usize>
         ensures { FoundAt (held self.now) item.now result }
     {
-        for place in 0..self.count {
-            if self.items[place].is(item) {
-                return Some(place);
-            }
-        }
-        None
+        self.items.as_slice().iter().position(|held| held.is(item))
     }
 
     // Gives an item its place: the one that it has, or the next one; none, and nothing changed, where all places are used by others.
     pub fn place(&mut self, item: Item) -> Option<usize>
         ensures { PlacedAt (held self.old) item result (held self.new) }
     {
-        if let Some(place) = self.find(&item) {
-            return Some(place);
+        match self.find(&item) {
+            Some(place) => Some(place),
+            None => self.items.push(item),
         }
-        let next = self.count;
-        if next == 512 {
-            return None;
-        }
-        self.items[next] = item;
-        self.count = next + 1;
-        Some(next)
     }
 }

@@ -2,7 +2,8 @@
 ghost use Rattle.std.specs.Prelude.{◌≡◌, ◌<◌, [], ◌∷◌, ◌++◌, length};
 ghost use Rattle.draft.specs.Nodes.{held};
 
-use crate::nodes::{DraftByte, DraftNode, DraftNodes};
+use crate::nodes::{DraftNode, DraftNodes, MOST_NODES};
+use tables::Table;
 
 impl DraftNodes {
     // No nodes yet.
@@ -10,13 +11,12 @@ impl DraftNodes {
         ensures { held result ≡ [] }
     {
         let unused = DraftNode {
-            byte: DraftByte::Hole,
+            function: None,
             category: 0,
             left: 0,
         };
         DraftNodes {
-            nodes: [unused; 364],
-            count: 0,
+            nodes: Table::new([unused; MOST_NODES]),
         }
     }
 
@@ -25,7 +25,6 @@ impl DraftNodes {
         requires { length (held self.old) < 364 }
         ensures { held self.new ≡ held self.old ++ node ∷ [] }
     {
-        self.nodes[self.count] = node;
-        self.count += 1;
+        self.nodes.push(node);
     }
 }

@@ -1,9 +1,24 @@
-// Asking a signature's table.
+// Asking a signature's table, and how many arguments a function has.
 ghost use Rattle.std.specs.Prelude.{◌≡◌, length};
 ghost use Rattle.std.specs.List.{slice_get};
+ghost use Rattle.grammar.specs.Questions.{argument_list};
 ghost use Rattle.grammar.specs.Tables.{listed, signature_of};
 
-use super::{FunctionType, SignatureTable};
+use super::{Arguments, FunctionType, SignatureTable};
+
+impl Arguments {
+    // How many arguments there are.
+    pub fn arity(self) -> u8
+        ensures { result ≡ length (argument_list self) }
+    {
+        match self {
+            Arguments::Zero => 0,
+            Arguments::One(_) => 1,
+            Arguments::Two(_, _) => 2,
+            Arguments::Three(_, _, _) => 3,
+        }
+    }
+}
 
 impl SignatureTable {
     pub fn categories(&self) -> u8
@@ -22,19 +37,21 @@ impl SignatureTable {
     pub fn len(&self) -> usize
         ensures { result ≡ length (listed self.now) }
     {
-        self.count
+        self.functions.len()
+    }
+
+    // The types of the functions, by number.
+    pub fn functions(&self) -> &[FunctionType]
+        ensures { result.now ≡ listed self.now }
+    {
+        self.functions.as_slice()
     }
 
     // The type of the function of that number, if there is one.
-    #[tactic(auto, using(crate::proofs::Listed::listed_length, crate::proofs::Listed::listed_at, std::proofs::lemmas::Option::slice_get_past))]
     pub fn function(&self, number: u8) -> Option<FunctionType>
         ensures { result ≡ slice_get (listed self.now) number }
     {
-        let place = number as usize;
-        if place < self.len() {
-            Some(self.functions[place])
-        } else {
-            None
-        }
+        // `as`: the number is an index here, and nothing else is made of it.
+        self.functions.get(number as usize)
     }
 }

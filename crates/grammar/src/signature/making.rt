@@ -3,6 +3,7 @@ ghost use Rattle.std.specs.Prelude.{◌≡◌, [], ◌∷◌, ◌++◌, length, 
 ghost use Rattle.grammar.specs.Tables.{listed, signature_of};
 
 use super::{Arguments, FUNCTIONS, FunctionType, SignatureTable};
+use tables::Table;
 
 impl SignatureTable {
     // A signature that has no functions yet.
@@ -18,23 +19,18 @@ impl SignatureTable {
         SignatureTable {
             categories,
             start,
-            functions: [unused; 64],
-            count: 0,
+            functions: Table::new([unused; FUNCTIONS]),
         }
     }
 
     // One function more, under the next number; false, and nothing changed, where there are 64 already.
+    // A `bool`, as a set's `insert` answers: no value stands beside the yes or no.
     pub fn add(&mut self, function: FunctionType) -> bool
         ensures test { result ≡ nat_lt (length (listed self.old)) 64 }
         ensures functions { listed self.new ≡ (if result then listed self.old ++ function ∷ [] else listed self.old) }
         ensures categories { (signature_of self.new).categories ≡ (signature_of self.old).categories }
         ensures start { (signature_of self.new).start ≡ (signature_of self.old).start }
     {
-        if self.count >= FUNCTIONS {
-            return false;
-        }
-        self.functions[self.count] = function;
-        self.count += 1;
-        true
+        self.functions.push(function).is_some()
     }
 }

@@ -22,6 +22,7 @@ impl SignatureTable {
         ensures { signature_of result ≡ (L.meaning language.now).signature }
     {
         let mut table = SignatureTable::new(language.categories(), language.start());
+        // By number, as a language is asked: no slice of its functions can be lent.
         for number in 0..language.functions() {
             if let Some(function) = function_type(language, number) {
                 table.add(function);

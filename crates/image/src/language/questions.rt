@@ -7,19 +7,27 @@ ghost use Rattle.grammar.proofs.Optional.{no_value};
 ghost use Rattle.soundness.proofs.Lawfulness.{sound_images_are_lawful};
 
 use super::ImageLanguage;
-use crate::decode::{decode_arguments, decode_symbol};
-use crate::lookup::{Lookup, look_up};
+use crate::decode::decode_symbol;
+use crate::lookup::Lookup;
+use crate::sound::SoundImage;
 use grammar::language::Language;
 use grammar::signature::Arguments;
-use grammar::symbol::{RuleForm, Symbol};
+use grammar::symbol::{RuleForm, RuleKey, Symbol};
 use view::ImageView;
 
 impl ImageLanguage {
     // The image with its sections in place.
+    fn image(&self) -> SoundImage<'_>
+        ensures { image result.view ≡ bytes_of self.now }
+    {
+        let view = ImageView::new(self.bytes.as_slice());
+        SoundImage { view }
+    }
+
     fn view(&self) -> ImageView<'_>
         ensures { image result ≡ bytes_of self.now }
     {
-        ImageView::new(self.bytes.as_slice())
+        self.image().view
     }
 }
 
@@ -46,38 +54,21 @@ impl Language for ImageLanguage {
 
     fn result(&self, function: u8) -> Option<u8> {
         let view = self.view();
-        if function < view.functions() {
-            Some(view.result(function))
-        } else {
-            None
-        }
+        (function < view.functions()).then_some(view.result(function))
     }
 
     fn arguments(&self, function: u8) -> Option<Arguments> {
-        let view = self.view();
-        if function < view.functions() {
-            Some(decode_arguments(&view, function))
-        } else {
-            None
-        }
+        self.image().arguments(function)
     }
 
     fn dimension(&self, category: u8) -> Option<u8> {
         let view = self.view();
-        if category < view.categories() {
-            Some(view.dimension(category))
-        } else {
-            None
-        }
+        (category < view.categories()).then_some(view.dimension(category))
     }
 
     fn word_length(&self, word: u16) -> Option<u8> {
-        let view = self.view();
-        if word < view.words() {
-            Some(view.word_length(word))
-        } else {
-            None
-        }
+        let image = self.image();
+        (word < image.view.words()).then_some(image.view.word_length(word))
     }
 
     fn word_byte(&self, word: u16, index: u8) -> Option<u8> {
@@ -85,45 +76,36 @@ impl Language for ImageLanguage {
         if word >= view.words() {
             return None;
         }
-        if index >= view.word_length(word) {
-            return None;
-        }
-        Some(view.spelled_byte(word, index))
+        view.spelling(word).get(usize::from(index)).copied()
     }
 
-    fn rule(&self, function: u8, forms: [u8; 3]) -> Option<RuleForm> {
-        let view = self.view();
-        match look_up(&view, function, forms) {
+    fn rule(&self, key: RuleKey) -> Option<RuleForm> {
+        let image = self.image();
+        match image.look_up(key) {
             Lookup::OutOfRange => None,
             Lookup::Missing => Some(RuleForm::Missing),
-            Lookup::Entry(rule) => Some(RuleForm::Form(view.result_form(rule))),
+            Lookup::Entry(rule) => Some(RuleForm::Form(image.view.result_form(rule))),
         }
     }
 
-    fn sequence_length(&self, function: u8, forms: [u8; 3], constituent: u8) -> Option<u8> {
-        let view = self.view();
-        let Lookup::Entry(rule) = look_up(&view, function, forms) else {
-            return None;
-        };
-        if constituent < view.rule_dimension(rule) {
-            Some(view.symbol_count(rule, constituent))
-        } else {
-            None
-        }
+    fn sequence_length(&self, key: RuleKey, constituent: u8) -> Option<u8> {
+        let image = self.image();
+        let rule = image.look_up(key).entry()?;
+        (constituent < image.view.rule_dimension(rule)).then_some(
+            image.view.symbol_count(rule, constituent),
+        )
     }
 
-    fn symbol(&self, function: u8, forms: [u8; 3], constituent: u8, index: u8) -> Option<Symbol> {
-        let view = self.view();
-        let Lookup::Entry(rule) = look_up(&view, function, forms) else {
-            return None;
-        };
-        if constituent >= view.rule_dimension(rule) {
+    fn symbol(&self, key: RuleKey, constituent: u8, index: u8) -> Option<Symbol> {
+        let image = self.image();
+        let rule = image.look_up(key).entry()?;
+        if constituent >= image.view.rule_dimension(rule) {
             return None;
         }
-        if index >= view.symbol_count(rule, constituent) {
+        if index >= image.view.symbol_count(rule, constituent) {
             return None;
         }
-        let number = view.first_symbol(rule, constituent) + index as u16;
-        Some(decode_symbol(view.symbol(number)))
+        let number = image.view.first_symbol(rule, constituent) + u16::from(index);
+        Some(decode_symbol(image.view.symbol(number)))
     }
 }

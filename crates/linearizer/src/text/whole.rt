@@ -2,9 +2,8 @@
 ghost use Rattle.std.specs.Prelude.{vec_items};
 ghost use Rattle.linearizer.specs.Texts.{TextTold};
 
-use crate::say::text_length;
+use crate::measured::MeasuredTree;
 use crate::text::TextFault;
-use crate::write::write_front;
 use grammar::language::Language;
 use measure::scan::measure;
 use std::alloc::Global;
@@ -19,7 +18,12 @@ pub fn text_of<L: Language>(
     ensures { TextTold vec_items (L.meaning language.now) tree.now result }
 {
     let table = measure(tree, language)?;
-    let mut text = Vec::from_elem(heap, 0, text_length(&table))?;
-    write_front(text.as_mut_slice(), tree, language, &table);
+    let measured = MeasuredTree {
+        tree,
+        language,
+        table: &table,
+    };
+    let mut text = Vec::from_elem(heap, 0, measured.text_length())?;
+    measured.write_front(text.as_mut_slice());
     Ok(text)
 }

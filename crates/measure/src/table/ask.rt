@@ -4,9 +4,9 @@ ghost use Rattle.measure.specs.Sizes.{unmeasured};
 ghost use Rattle.measure.specs.Measured.{measures, measured_at};
 
 use super::MeasureTable;
-use crate::kinds::NodeMeasure;
+use crate::kinds::{Muteness, NodeMeasure};
 
-// Of a place that holds no node.
+// Of a place that holds no node: it has no measure, and its muteness is a filler that is never told.
 fn unused() -> NodeMeasure
     ensures { result ≡ unmeasured }
 {
@@ -14,7 +14,7 @@ fn unused() -> NodeMeasure
         end: 0,
         places: [0; 3],
         forms: [0; 3],
-        said: None,
+        said: Err(Muteness { node: 0 }),
     }
 }
 
@@ -40,10 +40,6 @@ impl MeasureTable {
     pub fn at(&self, place: usize) -> NodeMeasure
         ensures { result ≡ measured_at self.now place }
     {
-        if place < self.nodes.len() {
-            self.nodes[place]
-        } else {
-            unused()
-        }
+        self.nodes.get(place).copied().unwrap_or(unused())
     }
 }

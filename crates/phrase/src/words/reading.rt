@@ -6,6 +6,7 @@ ghost use Rattle.phrase.specs.Spelled.{bytes_of, words_of, ReadTo};
 
 use crate::words::{MOST_WORDS, Phrase};
 use fault::kinds::PhraseFault;
+use tables::Table;
 use text::reader::PhraseReader;
 
 impl<'a> Phrase<'a> {
@@ -14,13 +15,12 @@ impl<'a> Phrase<'a> {
         ensures { ReadTo bytes.now result }
     {
         let mut reader = PhraseReader::new(bytes);
-        let mut words = [&bytes[0..0]; 32];
-        let mut count = 0;
+        let mut words = Table::new([&bytes[0..0]; MOST_WORDS]);
+        // The reader is no iterator: a word may be a fault, which `?` passes on.
         while let Some(word) = reader.next_word()? {
-            words[count] = word.text;
-            count += 1;
+            words.push(word.text);
         }
-        Ok(Phrase { words, count })
+        Ok(Phrase { words })
     }
 
     // How many words the phrase has.
@@ -28,21 +28,13 @@ impl<'a> Phrase<'a> {
         ensures count { result ≡ length (words_of self.now) }
         ensures few { result ≤ 32 }
     {
-        if self.count < MOST_WORDS {
-            self.count
-        } else {
-            MOST_WORDS
-        }
+        self.words.len()
     }
 
     // The word at a place.
     pub fn word(&self, index: usize) -> Option<&'a [u8]>
         ensures { option_map bytes_of result ≡ slice_get (words_of self.now) index }
     {
-        if index < self.len() {
-            Some(self.words[index])
-        } else {
-            None
-        }
+        self.words.get(index)
     }
 }

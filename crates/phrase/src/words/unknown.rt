@@ -11,13 +11,7 @@ impl<'a> Phrase<'a> {
     pub fn first_unknown<L: Language>(&self, language: &L) -> Option<usize>
         ensures { UnknownAt (L.meaning language.now) (words_of self.now) result }
     {
-        for place in 0..self.len() {
-            if let Some(bytes) = self.word(place) {
-                if !has_word(language, bytes) {
-                    return Some(place);
-                }
-            }
-        }
-        None
+        let mut words = self.words.as_slice().iter();
+        words.position(|bytes| !has_word(language, bytes))
     }
 }

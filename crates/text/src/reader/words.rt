@@ -5,15 +5,16 @@ ghost use Rattle.text.specs.HandOut.{kind_told, reader_walk, Ended, Handed, Coun
 
 use crate::reader::{PhraseReader, PhraseWord};
 use fault::kinds::PhraseFault;
+use grammar::words::is_permitted;
 
 // The most words that a phrase has.
-const MOST_WORDS: usize = 32;
+pub const MOST_WORDS: usize = 32;
 
 // The most bytes that a word has.
 const LONGEST_WORD: usize = 24;
 
 // What a byte can be in a phrase.
-#[derive(Clone, Copy)]
+#[derive(Clone, Copy, Debug, PartialEq, Eq)]
 enum ByteKind {
     Blank,
     Letter,
@@ -25,38 +26,9 @@ fn byte_kind(byte: u8) -> ByteKind
 {
     match byte {
         b' ' => ByteKind::Blank,
-        0x21..=0x7E | 0x80..=0xFF => ByteKind::Letter,
+        _ if is_permitted(byte) => ByteKind::Letter,
         _ => ByteKind::Neither,
     }
-}
-
-// The end of the word that begins at `start`, after so many words; the blank there, if there is one, is sound.
-fn word_end(phrase: &[u8], start: usize, words: usize) -> Result<usize, PhraseFault>
-    requires { start < length phrase.now }
-    ensures { Ended words start phrase.now result }
-{
-    let mut end = start;
-    while end < phrase.len() {
-        match byte_kind(phrase[end]) {
-            ByteKind::Letter => {
-                if end == start && words >= MOST_WORDS {
-                    return Err(PhraseFault::TooManyWords { byte: end });
-                }
-                if end - start >= LONGEST_WORD {
-                    return Err(PhraseFault::LongWord { byte: end });
-                }
-                end += 1;
-            }
-            ByteKind::Blank => {
-                if end == start || end + 1 == phrase.len() {
-                    return Err(PhraseFault::WrongByte { byte: end });
-                }
-                return Ok(end);
-            }
-            ByteKind::Neither => return Err(PhraseFault::WrongByte { byte: end }),
-        }
-    }
-    Ok(end)
 }
 
 impl<'a> PhraseReader<'a> {
@@ -73,6 +45,37 @@ impl<'a> PhraseReader<'a> {
         }
     }
 
+    // The end of the word that begins where the reader stands; the blank there, if there is one, is sound.
+    fn word_end(&self) -> Result<usize, PhraseFault>
+        requires { self.now.place < length self.now.phrase.now }
+        ensures { Ended self.now.words self.now.place self.now.phrase.now result }
+    {
+        let phrase = self.phrase;
+        let start = self.place;
+        let words = self.words;
+        for (length, byte) in phrase[start..].iter().enumerate() {
+            let end = start + length;
+            match byte_kind(*byte) {
+                ByteKind::Letter => {
+                    if length == 0 && words >= MOST_WORDS {
+                        return Err(PhraseFault::TooManyWords { byte: end });
+                    }
+                    if length >= LONGEST_WORD {
+                        return Err(PhraseFault::LongWord { byte: end });
+                    }
+                }
+                ByteKind::Blank => {
+                    if length == 0 || end + 1 == phrase.len() {
+                        return Err(PhraseFault::WrongByte { byte: end });
+                    }
+                    return Ok(end);
+                }
+                ByteKind::Neither => return Err(PhraseFault::WrongByte { byte: end }),
+            }
+        }
+        Ok(phrase.len())
+    }
+
     // The next word, or that there is none; a fault leaves the reader as it was, so that it is told again.
     pub fn next_word(&mut self) -> Result<Option<PhraseWord<'a>>, PhraseFault>
         ensures phrase { self.new.phrase.now ≡ self.old.phrase.now }
@@ -84,7 +87,7 @@ impl<'a> PhraseReader<'a> {
         if place == phrase.len() {
             return Ok(None);
         }
-        let end = word_end(phrase, place, self.words)?;
+        let end = self.word_end()?;
         self.place = if end < phrase.len() { end + 1 } else { end };
         self.words += 1;
         Ok(Some(PhraseWord {

@@ -7,24 +7,19 @@ ghost use Rattle.tree.specs.Read.{bytes_of, tree_signature, ReadAs};
 use super::TreeCode;
 use crate::signatures::same_signature;
 use draft::depth::Depth;
-use draft::walk::read_draft;
+use draft::walk::{HOLE, read_draft};
 use fault::kinds::TreeFault;
 use grammar::language::Language;
 use grammar::signature::SignatureTable;
-
-// The byte that stands for a hole.
-const HOLE: u8 = 255;
 
 // The fault of the first hole, if there is one.
 fn find_hole(bytes: &[u8]) -> Option<TreeFault>
     ensures { result ≡ first_hole 0 bytes.now }
 {
-    for (byte, value) in bytes.iter().enumerate() {
-        if *value == HOLE {
-            return Some(TreeFault::WrongNode { byte });
-        }
-    }
-    None
+    bytes
+        .iter()
+        .position(|byte| *byte == HOLE)
+        .map(|byte| TreeFault::WrongNode { byte })
 }
 
 impl<'a> TreeCode<'a> {
@@ -50,12 +45,9 @@ impl<'a> TreeCode<'a> {
     pub fn byte(&self, place: usize) -> Option<u8>
         ensures { result ≡ slice_get (bytes_of self.now) place }
     {
-        if place < self.len() {
-            Some(self.bytes[place])
-        } else {
-            None
-        }
+        self.bytes.get(place).copied()
     }
+
     // Whether the language has the signature of the tree.
     pub fn is_of<L: Language>(&self, language: &L) -> bool
         ensures same { result ≡ true → tree_signature self.now ≡ (L.meaning language.now).signature }

@@ -1,17 +1,10 @@
--- A word that is not sound is the first.
-use Rattle.std.proofs.Common.{arith}
+-- The words are checked one by one.
+use Rattle.std.proofs.Common.{rules}
+use Rattle.view.specs.Layout.{words}
 use Rattle.view.specs.Views.{image}
 use Rattle.demands.specs.Check.{word_demands}
-use Rattle.demands.proofs.Demands.{each_passes, each_stops, handed_on}
+use Rattle.demands.proofs.Demands.{tried}
 use Rattle.cnc.proofs.words.check_words.Goals as goal
 
-pub returns-in_err-check_word : goal.returns-in_err-check_word
-returns-in_err-check_word c =
-    let b = image c.args.view.now in
-    handed_on c.from_residual.result c.from_residual.ensures.1
-    (each_stops (word_demands b) c.loop-word.word c.loop-word.invariant _ (omega arith) c.in_err-check_word.ensures)
-
-pub loop-word-preserved : goal.loop-word-preserved
-loop-word-preserved c =
-    let b = image c.args.view.now in
-    each_passes (word_demands b) c.loop-word.word c.loop-word.invariant c.in_ok-check_word.ensures
+pub returns : goal.returns
+returns c = let b = image c.args.view.now in tried (word_demands b) (words b) (λ x w q k. search rules) (search rules) c.try_for_each.ensures.ran

@@ -4,7 +4,7 @@ use Rattle.std.proofs.lemmas.List.{length-drop, length-take-le}
 use Rattle.std.proofs.lemmas.Result.{err_from_is_err_and}
 use Rattle.writer.proofs.Growth.{put_on_page}
 use Rattle.linearizer.specs.Says.{SaysCode}
-use Rattle.linearizer.proofs.Saying.{unmeasured_refused, long_refused, fitting_ready, written_said}
+use Rattle.linearizer.proofs.Saying.{unmeasured_refused, long_refused, fitting_room, measured_said, written_said}
 use Rattle.linearizer.proofs.say.say.Goals as goal
 use Rattle.linearizer.proofs.say.say.Goals.{then-start-page-via-then-start-page, then-start-page-via-else-start-page+then-length-page}
 
@@ -29,8 +29,14 @@ write_front-requires g c =
     let page = c.args.page.now in
     let start = c.args.start in
     let room : length (take (length page - start) (drop start page)) ≡ length page - start = length-take-le (length page - start) (drop start page) (simp length-drop (omega arith)) in
-    fitting_ready (g.L.Language.meaning c.args.language.now) c.args.tree.now c.in_ok-table.table c.in_ok-table.ensures c.text_length-length.result c.text_length-length.ensures (length (take (length page - start) (drop start page))) (omega (arith, room))
+    fitting_room (g.L.Language.meaning c.args.language.now) c.args.tree.now c.in_ok-table.table c.in_ok-table.ensures c.text_length-length.result c.text_length-length.ensures (length (take (length page - start) (drop start page))) (omega (arith, room))
 
 pub returns : goal.returns
 returns g c =
     written_said (g.L.Language.meaning c.args.language.now) c.args.tree.now c.in_ok-table.table c.in_ok-table.ensures c.text_length-length.result c.text_length-length.ensures c.args.page.now c.args.start _ c.write_front.new.part (omega arith) c.write_front.ensures (λ text front. put_on_page c.args.page.now c.args.start text front)
+
+pub invariant_of-measured : goal.invariant_of-measured
+invariant_of-measured g c = record {
+  of = sym c.in_ok-table.ensures.0;
+  said = measured_said (g.L.Language.meaning c.args.language.now) c.args.tree.now c.in_ok-table.table c.in_ok-table.ensures;
+}

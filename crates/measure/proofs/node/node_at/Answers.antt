@@ -1,49 +1,19 @@
 -- The row of the arguments is the node's, and the rule is the one for their forms.
-use Rattle.std.proofs.Common.{false, [], sym, ap, ◌∙◌, subst}
-use Rattle.measure.specs.Sums.{ArgumentSizes}
-use Rattle.measure.proofs.Nodes.{forms_padded, row_is, row_key, row_said, row_sizes, said_node_measure, silent_node}
+use Rattle.measure.proofs.Nodes.{ruled_node, silent_node, small_arguments}
 use Rattle.measure.proofs.node.node_at.Goals as goal
 
-pub rule_measure-said-requires : goal.rule_measure-said-requires
-rule_measure-said-requires g c =
+pub invariant_of-arguments : goal.invariant_of-arguments
+invariant_of-arguments g c =
     let l = c.args.language.now in
-    let m = g.L.Language.meaning l in
-    let law = g.met.L.Language.lawful l in
-    let place = c.args.place in
-    let f = c.args.function in
-    let table = c.args.table.now in
-    let row = c.row_at-row.result in
-    let t = c.requires.ready.0 in
-    let ts = c.requires.ready.1 in
-    let at = c.requires.ready.2 in
-    let is = row_is m law t place f ts table at c.in-Some.arguments c.in-Some.ensures row c.row_at-row.ensures in
-    let said = row_said m law t place f ts table at row is c.in-Some-said.measures c.in-Some-said.is in
-    subst ArgumentSizes (sym said.2) (row_sizes m law t place f ts table at said.0 said.1)
+    let ready = c.requires.ready in
+    record { small = small_arguments (g.L.Language.meaning l) (g.met.L.Language.lawful l) ready.0 c.args.place c.args.function ready.1 c.args.table.now ready.2 c.in-Some.arguments c.in-Some.ensures c.row_at-row.result c.row_at-row.ensures c.in-Ok.measures c.in-Ok.is }
 
-pub returns-in-None : goal.returns-in-None
-returns-in-None g c t ts at =
+pub returns-in-Err : goal.returns-in-Err
+returns-in-Err g c t ts at =
     let l = c.args.language.now in
-    let m = g.L.Language.meaning l in
-    let law = g.met.L.Language.lawful l in
-    let place = c.args.place in
-    let f = c.args.function in
-    let table = c.args.table.now in
-    let row = c.row_at-row.result in
-    let is = row_is m law t place f ts table at c.in-Some.arguments c.in-Some.ensures row c.row_at-row.ensures in
-    ap (λ n. (n, false)) c.node_of.ensures ∙ silent_node m law t place f ts table at row is c.in-None.is
+    silent_node (g.L.Language.meaning l) (g.met.L.Language.lawful l) t c.args.place c.args.function ts c.args.table.now at c.in-Some.arguments c.in-Some.ensures c.row_at-row.result c.row_at-row.ensures c.in-Err.muteness c.in-Err.is
 
-pub returns-in-Some-said : goal.returns-in-Some-said
-returns-in-Some-said g c t ts at =
+pub returns-in-Ok : goal.returns-in-Ok
+returns-in-Ok g c t ts at =
     let l = c.args.language.now in
-    let m = g.L.Language.meaning l in
-    let law = g.met.L.Language.lawful l in
-    let place = c.args.place in
-    let f = c.args.function in
-    let table = c.args.table.now in
-    let row = c.row_at-row.result in
-    let is = row_is m law t place f ts table at c.in-Some.arguments c.in-Some.ensures row c.row_at-row.ensures in
-    let said = row_said m law t place f ts table at row is c.in-Some-said.measures c.in-Some-said.is in
-    let forms = forms_padded said.0 c.in-Some-said.measures record { form = 0; sizes = [] } said.2 in
-    let by_rule = c.rule_measure-said.ensures said.0 said.2 (row_key m law t place f ts table at said.0 _ said.1 forms) in
-    ap (λ n. (n, c.is_none.result)) c.node_of-in-Some-said.ensures
-    ∙ said_node_measure m law t place f ts table at row is said.0 said.1 _ c.rule_measure-said.result c.is_none.result forms by_rule c.is_none.ensures
+    ruled_node (g.L.Language.meaning l) (g.met.L.Language.lawful l) t c.args.place c.args.function ts c.args.table.now at c.in-Some.arguments c.in-Some.ensures c.row_at-row.result c.row_at-row.ensures c.in-Ok.measures c.in-Ok.is c.forms-forms.result c.by_rule.result c.ok_or.result c.forms-forms.ensures c.by_rule.ensures c.ok_or.ensures.value

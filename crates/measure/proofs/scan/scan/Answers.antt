@@ -1,62 +1,39 @@
 -- Each turn measures one node more.
-use Rattle.std.proofs.Common.{◌≡◌, ◌-◌, None, sym, subst, arith}
-use Rattle.tree.specs.Codes.{IsTree}
+use Rattle.std.proofs.Common.{sym, subst, arith}
 use Rattle.tree.specs.Read.{bytes_of}
-use Rattle.tree.proofs.Filled.{code_is_tree}
-use Rattle.measure.specs.Scanned.{Scanned}
+use Rattle.measure.specs.Measured.{MeasuredFrom}
 use Rattle.grammar.proofs.Nth.{nth_missing}
-use Rattle.measure.proofs.Scans.{next_node, noted, one_node_more, place_within, scanned_none}
+use Rattle.measure.proofs.Scans.{measured_none, next_node, one_node_more, place_fits}
 use Rattle.measure.proofs.scan.scan.Goals as goal
 
 pub loop-place-init : goal.loop-place-init
 loop-place-init g c t is =
     let m = g.L.Language.meaning c.args.language.now in
-    subst (λ k. Scanned m t k c.args.table.now None) (sym c.len-place.ensures) (scanned_none m (bytes_of c.args.tree.now) t is c.args.table.now)
+    subst (λ k. MeasuredFrom m t k c.new-table.result) (sym c.len-place.ensures) (measured_none m (bytes_of c.args.tree.now) t is c.new-table.result)
 
-pub node_at-is_mute-requires : goal.node_at-is_mute-requires
-node_at-is_mute-requires g c =
+pub node_at-requires : goal.node_at-requires
+node_at-requires g c =
     let l = c.args.language.now in
     let m = g.L.Language.meaning l in
-    let bytes = bytes_of c.args.tree.now in
-    let tree = code_is_tree c.args.tree.now in
-    let is = subst (λ s. IsTree s bytes tree.0) c.requires tree.1 in
-    let p = c.loop-place.place in
-    let next = next_node m (g.met.L.Language.lawful l) bytes tree.0 is p c.loop-place.table c.loop-place.mute (c.loop-place.invariant tree.0 is) (omega arith) (omega (arith, c.len-place.ensures)) c.in-Some.function c.in-Some.ensures in
+    let loop = c.loop-place in
     record {
-      within = place_within m (g.met.L.Language.lawful l) bytes tree.0 is (p - 1) (omega (arith, c.len-place.ensures));
-      ready = (tree.0, next.0, next.1);
+      within = place_fits m (g.met.L.Language.lawful l) c.args.tree.now loop.place loop.table loop.invariant (omega arith) (omega (arith, c.len-place.ensures)) c.requires;
+      ready = next_node m (g.met.L.Language.lawful l) c.args.tree.now loop.place loop.table loop.invariant (omega arith) (omega (arith, c.len-place.ensures)) c.in-Some.function c.in-Some.ensures c.requires;
     }
 
 pub put-requires : goal.put-requires
 put-requires g c =
     let l = c.args.language.now in
-    let m = g.L.Language.meaning l in
-    let bytes = bytes_of c.args.tree.now in
-    let tree = code_is_tree c.args.tree.now in
-    let is = subst (λ s. IsTree s bytes tree.0) c.requires tree.1 in
-    place_within m (g.met.L.Language.lawful l) bytes tree.0 is (c.loop-place.place - 1) (omega (arith, c.len-place.ensures))
+    place_fits (g.L.Language.meaning l) (g.met.L.Language.lawful l) c.args.tree.now c.loop-place.place c.loop-place.table c.loop-place.invariant (omega arith) (omega (arith, c.len-place.ensures)) c.requires
 
 pub loop-place-preserved : goal.loop-place-preserved
 loop-place-preserved g c =
     absurd (nth_missing (bytes_of c.args.tree.now) _ (omega (arith, c.len-place.ensures)) (sym c.in_default.ensures))
 
-pub loop-place-preserved-then-is_mute : goal.loop-place-preserved-then-is_mute
-loop-place-preserved-then-is_mute g c t is =
+pub loop-place-preserved-in-Some : goal.loop-place-preserved-in-Some
+loop-place-preserved-in-Some g c =
     let l = c.args.language.now in
-    let m = g.L.Language.meaning l in
-    let p = c.loop-place.place in
-    let more = one_node_more m (g.met.L.Language.lawful l) (bytes_of c.args.tree.now) t is p c.loop-place.table c.loop-place.mute (c.loop-place.invariant t is) (omega arith) (omega (arith, c.len-place.ensures)) c.in-Some.function c.in-Some.ensures c.node_at-is_mute.result.0 c.node_at-is_mute.result.1 c.put.new.self c.node_at-is_mute.ensures c.put.ensures in
-    subst (λ s. Scanned m t (p - 1) c.put.new.self (noted s (p - 1) c.loop-place.mute)) c.if-is_mute.true more
-
-pub loop-place-preserved-else-is_mute : goal.loop-place-preserved-else-is_mute
-loop-place-preserved-else-is_mute g c t is =
-    let l = c.args.language.now in
-    let m = g.L.Language.meaning l in
-    let p = c.loop-place.place in
-    let more = one_node_more m (g.met.L.Language.lawful l) (bytes_of c.args.tree.now) t is p c.loop-place.table c.loop-place.mute (c.loop-place.invariant t is) (omega arith) (omega (arith, c.len-place.ensures)) c.in-Some.function c.in-Some.ensures c.node_at-is_mute.result.0 c.node_at-is_mute.result.1 c.put.new.self c.node_at-is_mute.ensures c.put.ensures in
-    subst (λ s. Scanned m t (p - 1) c.put.new.self (noted s (p - 1) c.loop-place.mute)) c.if-is_mute.false more
+    one_node_more (g.L.Language.meaning l) (g.met.L.Language.lawful l) c.args.tree.now c.loop-place.place c.loop-place.table c.loop-place.invariant (omega arith) (omega (arith, c.len-place.ensures)) c.in-Some.function c.in-Some.ensures c.node_at.result c.put.new.self c.node_at.ensures c.put.ensures
 
 pub returns : goal.returns
-returns g c t is =
-    let none : c.loop-place.place ≡ 0 = omega arith in
-    subst (λ k. Scanned (g.L.Language.meaning c.args.language.now) t k c.loop-place.table c.loop-place.mute) none (c.loop-place.invariant t is)
+returns g c t is j u here = c.loop-place.invariant t is j u (omega arith) here

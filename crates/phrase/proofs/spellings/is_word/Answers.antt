@@ -1,21 +1,16 @@
--- Another length or another byte tells the two apart, and at the end all bytes are the same.
-use Rattle.std.proofs.Common.{sym, arith}
+-- The bytes are compared one by one.
+use Rattle.std.proofs.Common.{◌∙◌, rules, tests, sym, refl, arith}
 use Rattle.std.specs.List.{slice_get}
-use Rattle.phrase.proofs.Bytewise.{agree_all, agree_more, decides_no, decides_yes, missing_byte, other_byte}
+use Rattle.std.proofs.lemmas.Iterator.{YieldsList-from_range, cases_from_all}
+use Rattle.grammar.proofs.Ranges.{all_numbers}
+use Rattle.phrase.proofs.Bytewise.{Alike, alike_decides}
 use Rattle.phrase.proofs.spellings.is_word.Goals as goal
 
-pub returns-then-byte-bytes : goal.returns-then-byte-bytes
-returns-then-byte-bytes g c =
-    decides_no _ (other_byte (slice_get (g.L.Language.meaning c.args.language.now).words c.args.word) c.args.bytes.now c.loop-index.index c.in-Some-word_byte.byte (omega arith) (sym c.in-Some-word_byte.ensures) c.if-byte-bytes.true)
-
-pub returns-in-None-word_byte : goal.returns-in-None-word_byte
-returns-in-None-word_byte g c =
-    decides_no _ (missing_byte (slice_get (g.L.Language.meaning c.args.language.now).words c.args.word) c.args.bytes.now c.loop-index.index (omega arith) (sym c.in-None-word_byte.ensures))
-
-pub loop-index-preserved : goal.loop-index-preserved
-loop-index-preserved g c =
-    agree_more (slice_get (g.L.Language.meaning c.args.language.now).words c.args.word) c.args.bytes.now c.loop-index.index c.in-Some-word_byte.byte (omega arith) (sym c.in-Some-word_byte.ensures) c.if-byte-bytes.false c.loop-index.invariant
-
-pub returns-after-loop-index : goal.returns-after-loop-index
-returns-after-loop-index g c =
-    decides_yes _ (agree_all (slice_get (g.L.Language.meaning c.args.language.now).words c.args.word) c.args.bytes.now c.in-Some.length c.loop-index.index (sym c.in-Some.ensures) c.if-length-bytes.false (omega arith) c.loop-index.invariant)
+pub returns-then-from-bytes : goal.returns-then-from-bytes
+returns-then-from-bytes g c =
+    let o = slice_get (g.L.Language.meaning c.args.language.now).words c.args.word in
+    let bytes = c.args.bytes.now in
+    let n = c.in-Some.length in
+    alike_decides o bytes n c.all.result (sym c.in-Some.ensures) (sym c.from.ensures ∙ c.if-from-bytes.true)
+    (all_numbers (Alike o bytes) (λ k. Alike o bytes k → ⊥) n c.all.result
+    (cases_from_all _ _ _ (Alike o bytes) (λ k. Alike o bytes k → ⊥) c.all.ensures.ran (YieldsList-from_range 0 n n refl (omega arith)) (λ x q k. search (rules, tests)) (λ x q k. search (rules, tests))))

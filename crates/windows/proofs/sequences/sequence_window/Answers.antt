@@ -3,47 +3,52 @@ use Rattle.std.proofs.Common.{◌≡◌, Some, None, sym, ap, ◌∙◌, subst, 
 use Rattle.std.specs.List.{slice_get}
 use Rattle.std.proofs.lemmas.List.{take_all}
 use Rattle.grammar.proofs.Nth.{nth_missing}
-use Rattle.grammar.specs.declared.symbol.Window.TheVariants.{Outside}
 use Rattle.grammar.specs.Questions.{sequence_answer}
 use Rattle.congruence.specs.NodeItems.{IsWindowOf, put_together, sequence_string, symbol_string}
 use Rattle.measure.specs.Sums.{or_no_symbols}
 use Rattle.measure.proofs.Asked.{symbol_count, symbol_there}
 use Rattle.phrase.specs.Spelled.{words_of}
-use Rattle.windows.specs.Strings.{string_of, words_at}
+use Rattle.windows.specs.Strings.{phrase_of, string_of, words_at}
 use Rattle.windows.proofs.Symbols.{answered_named, no_symbols, symbol_more, symbol_outside}
 use Rattle.windows.proofs.sequences.sequence_window.Goals as goal
-use Rattle.windows.proofs.sequences.sequence_window.Goals.{in-Some-symbol+else-not-push_symbol, in_default-symbol, in-Some+else-loop-index-test, in_default}
+use Rattle.windows.proofs.sequences.sequence_window.Goals.{in-Some-symbol+in_ok-push_symbol, in_default-symbol, in-Some+else-loop-index-test, in_default}
 
 pub push_symbol-requires : goal.push_symbol-requires
 push_symbol-requires g c =
     let l = c.args.language.now in
-    answered_named (g.L.Language.meaning l) (g.met.L.Language.lawful l) c.args.function c.args.forms c.args.constituent c.loop-index.index c.in-Some-symbol.symbol (sym c.in-Some-symbol.ensures)
+    answered_named (g.L.Language.meaning l) (g.met.L.Language.lawful l) c.args.key.function c.args.key.forms c.args.constituent c.loop-index.index c.in-Some-symbol.symbol (sym c.in-Some-symbol.ensures)
 
-pub returns-then-not-push_symbol : goal.returns-then-not-push_symbol
-returns-then-not-push_symbol g c items same =
+pub returns-in_err-push_symbol : goal.returns-in_err-push_symbol
+returns-in_err-push_symbol g c items same =
     let m = g.L.Language.meaning c.args.language.now in
     let phrase = words_of c.args.phrase.now in
-    let asked = sequence_answer m c.args.function c.args.forms c.args.constituent in
+    let asked = sequence_answer m c.args.key.function c.args.key.forms c.args.constituent in
     let i = c.loop-index.index in
     let x = c.in-Some-symbol.symbol in
     let there : slice_get (or_no_symbols asked) i ≡ Some x = sym (symbol_there asked i) ∙ sym c.in-Some-symbol.ensures in
-    symbol_outside m phrase items (or_no_symbols asked) i x there
-    (subst (λ o. IsWindowOf phrase (put_together o (symbol_string m phrase items x)) Outside) (c.loop-index.invariant items same) (c.if-not-push_symbol.ensures items same))
+    rw c.from_residual.ensures
+    (symbol_outside m phrase items (or_no_symbols asked) i x there
+    (subst (λ o. IsWindowOf phrase (put_together o (symbol_string m phrase items x)) None) (c.loop-index.invariant.1 items same)
+    (subst (λ p. IsWindowOf (words_of p) (put_together (string_of c.loop-index.places) (symbol_string m (words_of p) items x)) None) c.loop-index.invariant.0 (c.in_err-push_symbol.ensures.added items same))))
 
 pub loop-index-preserved : goal.loop-index-preserved
-loop-index-preserved g c items same =
+loop-index-preserved g c =
     let m = g.L.Language.meaning c.args.language.now in
     let phrase = words_of c.args.phrase.now in
-    let asked = sequence_answer m c.args.function c.args.forms c.args.constituent in
+    let asked = sequence_answer m c.args.key.function c.args.key.forms c.args.constituent in
     let i = c.loop-index.index in
     elim c.match-symbol.branch [
-      | in-Some-symbol+else-not-push_symbol w ↦
+      | in-Some-symbol+in_ok-push_symbol w ↦
           let x = w.in-Some-symbol.symbol in
-          let there : slice_get (or_no_symbols asked) i ≡ Some x = sym (symbol_there asked i) ∙ sym w.in-Some-symbol.ensures in
-          ap (string_of phrase) w.places-is
-          ∙ w.if-not-push_symbol.ensures items same
-          ∙ ap (λ o. put_together o (symbol_string m phrase items x)) (c.loop-index.invariant items same)
-          ∙ sym (symbol_more m phrase items (or_no_symbols asked) i x there)
+          let there : slice_get (or_no_symbols asked) i ≡ Some x = sym (symbol_there asked i) ∙ sym w.in-Some-symbol.ensures in (
+            ap (λ p. p.phrase.now) w.places-is ∙ ap (λ p. p.now) w.in_ok-push_symbol.ensures.kept ∙ c.loop-index.invariant.0,
+            λ items same.
+                ap string_of w.places-is
+                ∙ w.in_ok-push_symbol.ensures.added items same
+                ∙ ap (λ p. put_together (string_of c.loop-index.places) (symbol_string m (words_of p) items x)) c.loop-index.invariant.0
+                ∙ ap (λ o. put_together o (symbol_string m phrase items x)) (c.loop-index.invariant.1 items same)
+                ∙ sym (symbol_more m phrase items (or_no_symbols asked) i x there),
+          )
       | in_default-symbol w ↦
           let none : slice_get (or_no_symbols asked) i ≡ None = sym (symbol_there asked i) ∙ sym w.in_default-symbol.ensures in
           absurd (nth_missing (or_no_symbols asked) i (omega (arith, symbol_count asked c.in-Some.count (sym c.in-Some.ensures))) none)
@@ -53,16 +58,22 @@ pub returns : goal.returns
 returns g c items same =
     let m = g.L.Language.meaning c.args.language.now in
     let phrase = words_of c.args.phrase.now in
-    let asked = sequence_answer m c.args.function c.args.forms c.args.constituent in
-    let whole : string_of phrase c.match-sequence_length.places ≡ sequence_string m phrase items (or_no_symbols asked) =
+    let asked = sequence_answer m c.args.key.function c.args.key.forms c.args.constituent in
+    let places = c.match-sequence_length.places in
+    let whole : (places.phrase.now ≡ c.args.phrase.now) × (string_of places ≡ sequence_string m phrase items (or_no_symbols asked)) =
     elim c.match-sequence_length.branch [
-      | in-Some+else-loop-index-test w ↦
-          ap (string_of phrase) w.places-is
-          ∙ w.loop-index.invariant items same
-          ∙ ap (sequence_string m phrase items) (take_all w.loop-index.index (or_no_symbols asked) (omega (arith, symbol_count asked w.in-Some.count (sym w.in-Some.ensures))))
-      | in_default w ↦
-          ap (string_of phrase) w.places-is
-          ∙ ap (words_at phrase) c.new-places.ensures
-          ∙ ap (sequence_string m phrase items) (sym (no_symbols asked (sym w.in_default.ensures)))
+      | in-Some+else-loop-index-test w ↦ (
+        ap (λ p. p.phrase.now) w.places-is ∙ w.loop-index.invariant.0,
+        ap string_of w.places-is
+            ∙ w.loop-index.invariant.1 items same
+            ∙ ap (sequence_string m phrase items) (take_all w.loop-index.index (or_no_symbols asked) (omega (arith, symbol_count asked w.in-Some.count (sym w.in-Some.ensures)))),
+      )
+      | in_default w ↦ (
+        ap (λ p. p.phrase.now) w.places-is ∙ c.new-places.ensures.of,
+        ap string_of w.places-is
+            ∙ ap (words_at (phrase_of c.new-places.result)) c.new-places.ensures.empty
+            ∙ ap (sequence_string m phrase items) (sym (no_symbols asked (sym w.in_default.ensures))),
+      )
     ] in
-    subst (λ o. IsWindowOf phrase o c.find.result) whole c.find.ensures
+    subst (λ p. IsWindowOf (words_of p) (sequence_string m phrase items (or_no_symbols asked)) c.find.result) whole.0
+    (subst (λ o. IsWindowOf (phrase_of places) o c.find.result) whole.1 c.find.ensures)

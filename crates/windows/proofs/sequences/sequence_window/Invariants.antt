@@ -1,4 +1,4 @@
--- The string so far is that of the symbols so far.
+-- The string so far is that of the symbols so far, and holds the phrase.
 use Rattle.std.proofs.Common.{◌≡◌, List, take}
 use Rattle.grammar.specs.Charts.{Item}
 use Rattle.grammar.specs.Questions.{sequence_answer}
@@ -11,4 +11,5 @@ use Rattle.windows.proofs.sequences.sequence_window.Given as goal
 
 abbrev pub invariant-loop-index : goal.invariant-loop-index
 invariant-loop-index g l =
-    (items : List Item) → l.arguments ≡ argument_windows items → string_of (words_of l.phrase) l.places ≡ sequence_string (g.L.Language.meaning l.language) (words_of l.phrase) items (take l.index (or_no_symbols (sequence_answer (g.L.Language.meaning l.language) l.function l.forms l.constituent)))
+    (l.places.phrase.now ≡ l.fn.phrase)
+    × ((items : List Item) → l.arguments ≡ argument_windows items → string_of l.places ≡ sequence_string (g.L.Language.meaning l.language) (words_of l.fn.phrase) items (take l.index (or_no_symbols (sequence_answer (g.L.Language.meaning l.language) l.key.function l.key.forms l.constituent))))

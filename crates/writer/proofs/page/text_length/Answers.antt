@@ -1,8 +1,6 @@
 -- One word more makes the text longer by the gap and the word; past the largest number it stays past.
-use Rattle.std.proofs.Common.{◌≡◌, ◌+◌, cond, [], ◌∷◌, length, take, ap, arith}
-use Rattle.std.proofs.lemmas.List.{take_all}
-use Rattle.grammar.specs.Linearization.{blank, spaced}
-use Rattle.writer.specs.PutDown.{spellings}
+use Rattle.std.proofs.Common.{◌+◌, cond, [], ◌∷◌, length, ap, arith}
+use Rattle.grammar.specs.Linearization.{blank}
 use Rattle.writer.proofs.Spaced.{next_length, next_some, no_longer}
 use Rattle.writer.proofs.page.text_length.Goals as goal
 
@@ -20,9 +18,3 @@ loop-word-preserved c =
     let told = c.in_ok-text.ensures in
     let one = ap (λ some. length (cond some (blank ∷ []) [])) (next_some ws i (omega arith)) in
     (omega (arith, told.0, told.1), omega (arith, next_length ws i (omega arith), told.1), omega (arith, one))
-
-pub returns : goal.returns
-returns c =
-    let whole : length (spaced (spellings (take c.loop-word.word-index c.args.words.now))) ≡ length (spaced (spellings c.args.words.now)) =
-    ap (λ ws. length (spaced (spellings ws))) (take_all c.loop-word.word-index c.args.words.now (omega arith)) in
-    (omega arith, omega arith)

@@ -1,73 +1,100 @@
 -- Each place of the first chain is chosen in turn.
-use Rattle.std.proofs.Common.{◌-◌, ◌<◌, true, false, map, length, get_or, drop, sym, subst, arith, rules}
-use Rattle.std.proofs.lemmas.List.{length-drop, length-take-le}
-use Rattle.std.proofs.lemmas.Bool.{ltb-false, ltb-true}
-use Rattle.chart.specs.Rows.{Filled, edge_over, listed, product}
-use Rattle.chart.proofs.Filling.{listed_length}
-use Rattle.chart.proofs.Walks.{Under, along_end, along_less, along_more, along_start, along_stop, along_under, along_within, chain_parts, no_chains, under_along}
+use Rattle.std.proofs.Common.{◌<◌, true, false, length, get_or, None, sym, refl, ap, arith}
+use Rattle.std.proofs.lemmas.Bool.{ltb-false}
+use Rattle.tables.proofs.Few.{held_few}
+use Rattle.chart.specs.Rows.{listed}
+use Rattle.chart.proofs.Walks.{along_end, along_first, along_less, along_more, along_start, along_stop, along_within, chain_parts, filled_all, room_from, under_all}
 use Rattle.chart.proofs.edge.EdgeTable.+add_rows.Goals as goal
 
-pub returns-in_default : goal.returns-in_default
-returns-in_default t c chains h =
-    let none = no_chains c.args.index.now.next c.args.starts.now chains (omega (arith, ltb-true)) h in
-    subst (λ cs. Filled (listed c.args.self.now) (map (edge_over c.args.function c.args.arguments c.args.chosen) (product cs)) c.push.result (listed c.push.new.self)) (sym none) c.push.ensures
-
-pub loop-place-init : goal.loop-place-init
-loop-place-init t c chains h =
+pub loop-next-init : goal.loop-next-init
+loop-next-init t c chains h =
     let next = c.args.index.now.next in
-    let p = chain_parts next c.args.starts.now chains (omega (arith, ltb-false)) h in
-    let table = c.args.self.now in
-    along_under next (get_or c.args.starts.now 0 0) (listed table) (listed table) c.args.function c.args.arguments c.args.chosen chains p.first p.others p.are
-    (along_start next (get_or c.args.starts.now 0 0) (listed table) c.args.function c.args.arguments c.args.chosen p.first p.others (omega (arith, listed_length table, table.within)) p.chain p.rises p.small)
-
-pub add_rows-requires : goal.add_rows-requires
-add_rows-requires t c =
     let starts = c.args.starts.now in
     let some : 0 < length starts = omega (arith, ltb-false) in
-    let p = chain_parts c.args.index.now.next starts c.requires.chains.0 some c.requires.chains.1 in
-    let long = length-take-le (length starts - 1) (drop 1 starts) (omega (arith, length-drop 1 starts)) in
-    (search (rules, long), (omega (arith, long, c.requires.room), (p.others, p.rest)))
+    let p = chain_parts next starts chains some h in
+    let table = listed c.args.self.now in
+    let f = c.args.function in
+    let arguments = c.args.arguments in
+    let n = c.args.chosen in
+    under_all next starts chains some h table table f arguments n _ _ refl
+    (along_start next (get_or starts 0 None) table f arguments n p.first p.others (held_few c.args.self.now.edges) p.chain p.rises p.small)
 
-pub returns-then-not-add_rows : goal.returns-then-not-add_rows
-returns-then-not-add_rows t c chains h =
+pub returns-in_err-add_rows : goal.returns-in_err-add_rows
+returns-in_err-add_rows t c chains h =
     let next = c.args.index.now.next in
-    let p = chain_parts next c.args.starts.now chains (omega (arith, ltb-false)) h in
-    let along = under_along next c.loop-place.place (listed c.args.self.now) (listed c.loop-place.self) c.args.function c.args.arguments c.args.chosen chains p.first p.others p.are (c.loop-place.invariant chains h) in
-    let stop = along_stop next c.loop-place.place (listed c.args.self.now) (listed c.loop-place.self) c.args.function c.args.arguments c.args.chosen p.first p.others along c.loop-place-test.true (listed c.add_rows.new.self) (c.if-not-add_rows.ensures p.others p.rest) in
-    subst (λ cs. Filled (listed c.args.self.now) (map (edge_over c.args.function c.args.arguments c.args.chosen) (product cs)) false (listed c.add_rows.new.self)) (sym p.are) stop
+    let starts = c.args.starts.now in
+    let some : 0 < length starts = omega (arith, ltb-false) in
+    let p = chain_parts next starts chains some h in
+    let before = listed c.args.self.now in
+    let now = listed c.loop-next.self in
+    let after = listed c.add_rows.new.self in
+    let f = c.args.function in
+    let arguments = c.args.arguments in
+    let n = c.args.chosen in
+    let along = along_first next starts chains some h before now f arguments n _ _ c.in-Some.is (c.loop-next.invariant chains h) in
+    rw c.from_residual.ensures
+    (filled_all next starts chains some h before after f arguments n false
+    (along_stop next before now f arguments n p.first p.others c.in-Some.place along after (c.in_err-add_rows.ensures p.others p.rest)))
 
-pub after-place-requires : goal.after-place-requires
-after-place-requires t c =
+pub after-next-requires : goal.after-next-requires
+after-next-requires t c =
     let next = c.args.index.now.next in
+    let starts = c.args.starts.now in
+    let some : 0 < length starts = omega (arith, ltb-false) in
     let chains = c.requires.chains.0 in
     let h = c.requires.chains.1 in
-    let p = chain_parts next c.args.starts.now chains (omega (arith, ltb-false)) h in
-    let along = under_along next c.loop-place.place (listed c.args.self.now) (listed c.loop-place.self) c.args.function c.args.arguments c.args.chosen chains p.first p.others p.are (c.loop-place.invariant chains h) in
-    along_within next c.loop-place.place (listed c.args.self.now) (listed c.loop-place.self) c.args.function c.args.arguments c.args.chosen p.first p.others along c.loop-place-test.true
+    let p = chain_parts next starts chains some h in
+    let before = listed c.args.self.now in
+    let now = listed c.loop-next.self in
+    let f = c.args.function in
+    let arguments = c.args.arguments in
+    let n = c.args.chosen in
+    along_within next before now f arguments n p.first p.others c.in-Some.place
+    (along_first next starts chains some h before now f arguments n _ _ c.in-Some.is (c.loop-next.invariant chains h))
 
-pub loop-place-smaller : goal.loop-place-smaller
-loop-place-smaller t c =
+pub loop-next-smaller : goal.loop-next-smaller
+loop-next-smaller t c =
     let next = c.args.index.now.next in
+    let starts = c.args.starts.now in
+    let some : 0 < length starts = omega (arith, ltb-false) in
     let chains = c.requires.chains.0 in
     let h = c.requires.chains.1 in
-    let p = chain_parts next c.args.starts.now chains (omega (arith, ltb-false)) h in
-    let along = under_along next c.loop-place.place (listed c.args.self.now) (listed c.loop-place.self) c.args.function c.args.arguments c.args.chosen chains p.first p.others p.are (c.loop-place.invariant chains h) in
-    let less = along_less next c.loop-place.place (listed c.args.self.now) (listed c.loop-place.self) c.args.function c.args.arguments c.args.chosen p.first p.others along c.loop-place-test.true in
-    omega (arith, less, c.after-place.ensures)
+    let p = chain_parts next starts chains some h in
+    let before = listed c.args.self.now in
+    let now = listed c.loop-next.self in
+    let f = c.args.function in
+    let arguments = c.args.arguments in
+    let n = c.args.chosen in
+    let less = along_less next before now f arguments n p.first p.others c.in-Some.place (along_first next starts chains some h before now f arguments n _ _ c.in-Some.is (c.loop-next.invariant chains h)) in
+    omega (arith, less, ap room_from c.after-next.ensures, ap room_from c.in-Some.is)
 
-pub loop-place-preserved : goal.loop-place-preserved
-loop-place-preserved t c chains h =
+pub loop-next-preserved : goal.loop-next-preserved
+loop-next-preserved t c chains h =
     let next = c.args.index.now.next in
-    let p = chain_parts next c.args.starts.now chains (omega (arith, ltb-false)) h in
-    let along = under_along next c.loop-place.place (listed c.args.self.now) (listed c.loop-place.self) c.args.function c.args.arguments c.args.chosen chains p.first p.others p.are (c.loop-place.invariant chains h) in
-    let more = along_more next c.loop-place.place (listed c.args.self.now) (listed c.loop-place.self) c.args.function c.args.arguments c.args.chosen p.first p.others along c.loop-place-test.true (listed c.add_rows.new.self) (c.if-not-add_rows.ensures p.others p.rest) in
-    subst (λ q. Under next q (listed c.args.self.now) (listed c.add_rows.new.self) c.args.function c.args.arguments c.args.chosen chains) (sym c.after-place.ensures)
-    (along_under next (get_or next c.loop-place.place 0) (listed c.args.self.now) (listed c.add_rows.new.self) c.args.function c.args.arguments c.args.chosen chains p.first p.others p.are more)
+    let starts = c.args.starts.now in
+    let some : 0 < length starts = omega (arith, ltb-false) in
+    let p = chain_parts next starts chains some h in
+    let before = listed c.args.self.now in
+    let now = listed c.loop-next.self in
+    let after = listed c.add_rows.new.self in
+    let f = c.args.function in
+    let arguments = c.args.arguments in
+    let n = c.args.chosen in
+    let along = along_first next starts chains some h before now f arguments n _ _ c.in-Some.is (c.loop-next.invariant chains h) in
+    under_all next starts chains some h before after f arguments n _ _ (sym c.after-next.ensures)
+    (along_more next before now f arguments n p.first p.others c.in-Some.place along after (c.in_ok-add_rows.ensures p.others p.rest))
 
 pub returns : goal.returns
 returns t c chains h =
     let next = c.args.index.now.next in
-    let p = chain_parts next c.args.starts.now chains (omega (arith, ltb-false)) h in
-    let along = under_along next c.loop-place.place (listed c.args.self.now) (listed c.loop-place.self) c.args.function c.args.arguments c.args.chosen chains p.first p.others p.are (c.loop-place.invariant chains h) in
-    let end = along_end next c.loop-place.place (listed c.args.self.now) (listed c.loop-place.self) c.args.function c.args.arguments c.args.chosen p.first p.others along c.loop-place-test.false in
-    subst (λ cs. Filled (listed c.args.self.now) (map (edge_over c.args.function c.args.arguments c.args.chosen) (product cs)) true (listed c.loop-place.self)) (sym p.are) end
+    let starts = c.args.starts.now in
+    let some : 0 < length starts = omega (arith, ltb-false) in
+    let p = chain_parts next starts chains some h in
+    let before = listed c.args.self.now in
+    let now = listed c.loop-next.self in
+    let f = c.args.function in
+    let arguments = c.args.arguments in
+    let n = c.args.chosen in
+    filled_all next starts chains some h before now f arguments n true
+    (along_end next before now f arguments n p.first p.others
+    (along_first next starts chains some h before now f arguments n _ _ c.in_default-next.is (c.loop-next.invariant chains h)))

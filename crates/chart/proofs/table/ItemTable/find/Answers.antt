@@ -1,22 +1,13 @@
--- Each item so far is another, or the one that is wanted.
-use Rattle.std.proofs.Common.{◌≡◌, take, Some, sym, ap, ◌∙◌, subst, arith}
-use Rattle.grammar.specs.Lists.{Holds}
-use Rattle.chart.proofs.Holding.{held_at, still_missing}
+-- The first place of the item, or none.
+use Rattle.std.proofs.Common.{◌≡◌, rules, tests}
+use Rattle.std.proofs.lemmas.Iterator.{IsFirst-from_position, YieldsList-from_slice}
+use Rattle.chart.specs.Places.{held}
+use Rattle.chart.proofs.Holding.{found_at}
 use Rattle.chart.proofs.table.ItemTable.find.Goals as goal
 
-pub loop-place-init : goal.loop-place-init
-loop-place-init c h = h
-
-pub returns-then-is : goal.returns-then-is
-returns-then-is c =
-    held_at c.args.self.now c.loop-place.place _ (omega arith) ∙ ap Some (c.is.ensures.same c.if-is.true)
-
-pub loop-place-preserved : goal.loop-place-preserved
-loop-place-preserved c h =
-    let t = c.args.self.now in
-    still_missing t.items c.loop-place.place c.args.item.now _ (omega (arith, t.within, t.sized)) c.loop-place.invariant (c.is.ensures.other c.if-is.false) h
-
 pub returns : goal.returns
-returns c h =
-    let all : c.loop-place.place ≡ c.args.self.now.count = omega arith in
-    c.loop-place.invariant (subst (λ n. Holds (take n c.args.self.now.items) c.args.item.now) (sym all) h)
+returns c =
+    let xs = held c.args.self.now in
+    let x = c.args.item.now in
+    found_at xs x c.position.result
+    (IsFirst-from_position _ _ _ (λ y. y ≡ x) (λ y. y ≡ x → ⊥) c.position.ensures.ran (YieldsList-from_slice xs (cc)) (λ y q k. search (rules, tests)) (λ y q k. search (rules, tests)))

@@ -9,7 +9,7 @@ use Rattle.tree.specs.Codes.{IsTree}
 use Rattle.tree.specs.Read.{bytes_of, tree_signature}
 use Rattle.linearizer.specs.Says.{TextOf}
 use Rattle.linearizer.specs.Texts.{TextTold}
-use Rattle.linearizer.proofs.Saying.{filled_text, fitting_ready, unmeasured_text}
+use Rattle.linearizer.proofs.Saying.{filled_text, fitting_room, measured_said, unmeasured_text}
 use Rattle.linearizer.proofs.text.whole.text_of.Goals as goal
 
 pub returns-in_err-table : goal.returns-in_err-table
@@ -21,7 +21,7 @@ returns-in_err-table g c =
 
 pub write_front-requires : goal.write_front-requires
 write_front-requires g c =
-    fitting_ready (g.L.Language.meaning c.args.language.now) c.args.tree.now c.in_ok-table.table c.in_ok-table.ensures c.text_length.result c.text_length.ensures (length c.as_mut_slice.result.now) (omega (arith, c.as_mut_slice.ensures.len, c.in_ok-text.ensures.len))
+    fitting_room (g.L.Language.meaning c.args.language.now) c.args.tree.now c.in_ok-table.table c.in_ok-table.ensures c.text_length.result c.text_length.ensures (length c.as_mut_slice.result.now) (omega (arith, c.as_mut_slice.ensures.len, c.in_ok-text.ensures.len))
 
 pub returns : goal.returns
 returns g c =
@@ -33,3 +33,9 @@ returns g c =
     let same = take_at part (drop (length part) c.in_ok-text.text.items) c.in_ok-text.text.len (omega (arith, all.0, made)) in
     let P : List ℕ → Type 0 = λ text. (tree_signature c.args.tree.now ≡ m.signature) × ((t : Tree) × IsTree (tree_signature c.args.tree.now) (bytes_of c.args.tree.now) t × TextOf m t text) in
     subst P (sym same) (all.1, all.2)
+
+pub invariant_of-measured : goal.invariant_of-measured
+invariant_of-measured g c = record {
+  of = sym c.in_ok-table.ensures.0;
+  said = measured_said (g.L.Language.meaning c.args.language.now) c.args.tree.now c.in_ok-table.table c.in_ok-table.ensures;
+}

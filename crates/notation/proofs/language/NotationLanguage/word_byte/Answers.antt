@@ -15,5 +15,5 @@ pub returns-else-word-count : goal.returns-else-word-count
 returns-else-word-count c =
     let count = length (signature_in c.args.self.now).functions in
     c.mark_byte.ensures
-    ∙ ap (λ n. at (slice_get marks (c.args.word - n)) c.args.index) c.count-count.ensures
+    ∙ ap (λ n. at (slice_get marks (c.args.word - n)) c.args.index) (c.from-count.ensures ∙ c.count.ensures)
     ∙ sym (ap (λ o. at o c.args.index) (mark_at count c.args.word (omega arith)))

@@ -1,25 +1,27 @@
 -- The first place from which the phrase has the words of the string, or none.
-use Rattle.std.proofs.Common.{refl, subst, arith, below_more}
-use Rattle.std.proofs.lemmas.List.{length-take-le}
-use Rattle.std.proofs.lemmas.Bool.{false≢true}
-use Rattle.grammar.specs.declared.symbol.Window.TheVariants.{Inside}
-use Rattle.congruence.specs.NodeItems.{IsWindowOf}
-use Rattle.phrase.specs.Spelled.{words_of}
-use Rattle.windows.specs.Strings.{SameFrom, places_of, string_of}
+use Rattle.std.proofs.Common.{◌+◌, Some, None, rules, tests, refl, arith}
+use Rattle.std.proofs.lemmas.Iterator.{first_from_find}
+use Rattle.windows.specs.Strings.{SameFrom, phrase_of, places_of}
+use Rattle.windows.proofs.Inclusive.{YieldsList-from_inclusive, first_number}
 use Rattle.windows.proofs.Standing.{first_window, no_window}
 use Rattle.windows.proofs.places.Places.find.Goals as goal
 
-pub returns-then-stands_at : goal.returns-then-stands_at
-returns-then-stands_at c =
-    let p = c.args.self.now in
-    let phrase = words_of c.args.phrase.now in
-    subst (λ n. IsWindowOf phrase (string_of phrase p) (Inside c.loop-start.start n)) (length-take-le p.count p.at (omega (arith, p.sized, p.within)))
-    (first_window phrase (places_of p) c.loop-start.start (omega (arith, c.len-start-end.ensures.count)) (c.if-stands_at.ensures.0 refl) c.loop-start.invariant)
-
-pub loop-start-preserved : goal.loop-start-preserved
-loop-start-preserved c =
-    below_more (λ j. SameFrom (words_of c.args.phrase.now) (places_of c.args.self.now) j → ⊥) c.loop-start.start c.loop-start.invariant (λ here. false≢true (c.if-stands_at.ensures.1 here))
+pub returns-in_err-start : goal.returns-in_err-start
+returns-in_err-start c =
+    let phrase = phrase_of c.args.self.now in
+    let is = places_of c.args.self.now in
+    let n = c.new.result.end in
+    let none = first_number (SameFrom phrase is) (λ k. SameFrom phrase is k → ⊥) (n + 1) None
+    (first_from_find _ _ None (SameFrom phrase is) (λ k. SameFrom phrase is k → ⊥) c.in_err-start.ensures.ran (YieldsList-from_inclusive c.new.result n c.new.ensures.start refl c.new.ensures.exhausted) (λ x q k. search (rules, tests)) (λ x q k. search (rules, tests))) in
+    rw c.from_residual.ensures (no_window phrase is (λ j lt. none j (omega (arith, c.len.ensures, c.new.ensures.end))))
 
 pub returns : goal.returns
 returns c =
-    no_window (words_of c.args.phrase.now) (places_of c.args.self.now) (λ j lt. c.loop-start.invariant j (omega (arith, c.len-start-end.ensures.count)))
+    let phrase = phrase_of c.args.self.now in
+    let is = places_of c.args.self.now in
+    let i = c.in_ok-start.start in
+    let n = c.new.result.end in
+    let found = first_number (SameFrom phrase is) (λ k. SameFrom phrase is k → ⊥) (n + 1) (Some i)
+    (first_from_find _ _ (Some i) (SameFrom phrase is) (λ k. SameFrom phrase is k → ⊥) c.in_ok-start.ensures.ran (YieldsList-from_inclusive c.new.result n c.new.ensures.start refl c.new.ensures.exhausted) (λ x q k. search (rules, tests)) (λ x q k. search (rules, tests))) in
+    rw c.len-2.ensures.count
+    (first_window phrase is i (omega (arith, c.len.ensures, c.new.ensures.end, found.0)) found.1 (λ j lt. found.2 j lt))

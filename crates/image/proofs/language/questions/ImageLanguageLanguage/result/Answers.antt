@@ -1,19 +1,17 @@
-use Rattle.std.proofs.Common.{◌≡◌, Some, Option, ap, ◌∙◌, arith, rules}
-use Rattle.view.specs.Grammar.{image_meaning}
+-- A function that the image has is told by its field.
+use Rattle.std.proofs.Common.{◌≡◌, ltb, rules, refl, ap, ◌∙◌}
+use Rattle.std.specs.Bool.{then_some}
+use Rattle.view.specs.Grammar.{image_function, image_meaning}
+use Rattle.view.specs.Layout.{functions, result}
 use Rattle.view.specs.Views.{image}
-use Rattle.grammar.specs.Questions.{result_answer}
-use Rattle.image.proofs.Told.{result_told, result_none}
+use Rattle.grammar.specs.Questions.{function_result, result_answer}
+use Rattle.image.proofs.Told.{told_below}
 use Rattle.image.proofs.language.questions.ImageLanguageLanguage.result.Goals as goal
 
--- a field that was read is the answer that it is known to be
-read_as : {A : Type 0} {x y : A} {o : Option A} → Some y ≡ o → x ≡ y → Some x ≡ o
-read_as told same = ap Some same ∙ told
-
-pub returns-then-function-functions : goal.returns-then-function-functions
-returns-then-function-functions c =
-    let told = result_told (image c.view-view.result) c.args.function (omega arith) in
-    read_as (told ∙ ap (λ b. result_answer (image_meaning b) c.args.function) c.view-view.ensures) (search rules)
-
-pub returns-else-function-functions : goal.returns-else-function-functions
-returns-else-function-functions c =
-    result_none (image c.view-view.result) c.args.function (omega arith) ∙ ap (λ b. result_answer (image_meaning b) c.args.function) c.view-view.ensures
+pub returns : goal.returns
+returns c =
+    let v = image c.view-view.result in
+    let read : c.then_some.result ≡ then_some (ltb c.args.function (functions v)) (result v c.args.function) = search rules in
+    read
+    ∙ told_below (functions v) c.args.function (image_function v) function_result (result v c.args.function) (λ lt. refl)
+    ∙ ap (λ b. result_answer (image_meaning b) c.args.function) c.view-view.ensures
