@@ -1,12 +1,12 @@
 -- What a call that sends a depth, a draft and a phrase is found to be, before any language is asked.
-use Rattle.std.specs.Prelude.{◌≡◌, ℕ, ◌⊎◌, List, length, Ok, Err, Result}
+use Rattle.std.specs.Prelude.{◌≡◌, ℕ, ◌+◌, ◌⊎◌, List, length, Ok, Err, Result}
 use Rattle.fault.specs.declared.kinds.OpenFault.{OpenFault}
 use Rattle.fault.specs.declared.kinds.OpenFault.TheVariants.{InTree, InPhrase, InChart}
 use Rattle.fault.specs.declared.kinds.PhraseFault.{PhraseFault}
 use Rattle.grammar.specs.DraftWalk.{draft_walk, depth_check}
 use Rattle.grammar.specs.Drafts.{Draft}
 use Rattle.grammar.specs.Languages.{Words}
-use Rattle.grammar.specs.PhraseWalk.{read_phrase}
+use Rattle.grammar.specs.PhraseWalk.{Walk, read_phrase}
 use Rattle.grammar.specs.Signatures.{Signature}
 use Rattle.draft.specs.Nodes.{draft_nodes}
 
@@ -14,6 +14,11 @@ use Rattle.draft.specs.Nodes.{draft_nodes}
 abbrev pub WordCount : List ℕ → Result ℕ PhraseFault → Type 0
 WordCount bytes (Ok n) = (words : Words) × (read_phrase bytes ≡ Ok words) × (length words ≡ n)
 WordCount bytes (Err fault) = read_phrase bytes ≡ Err fault
+
+-- so many of a walk's words are handed out, and the walk that is left stops as the whole does
+pub record Ahead (n : ℕ) (whole left : Walk) : Type 0 where
+  pub handed : length whole.words ≡ n + length left.words
+  pub stop : whole.stop ≡ left.stop
 
 -- everything is sound: so many nodes and so many words
 pub record Sound (s : Signature) (d : ℕ) (code phrase : List ℕ) (nodes words : ℕ) : Type 0 where

@@ -8,7 +8,7 @@ use draft::depth::Depth;
 use draft::walk::read_draft;
 use fault::kinds::{OpenFault, PhraseFault};
 use grammar::signature::SignatureTable;
-use phrase::words::Phrase;
+use text::reader::PhraseReader;
 
 pub mod samples;
 
@@ -16,7 +16,13 @@ pub mod samples;
 fn count_words(phrase: &[u8]) -> Result<usize, PhraseFault>
     ensures { WordCount phrase.now result }
 {
-    Ok(Phrase::read(phrase)?.len())
+    // Counted as they are handed out: a `Phrase` would hold 32 words to be counted, at nearly twice the time.
+    let mut reader = PhraseReader::new(phrase);
+    let mut count = 0;
+    while let Some(_word) = reader.next_word()? {
+        count += 1;
+    }
+    Ok(count)
 }
 
 // How many nodes the draft and how many words the phrase of a sound call has; or the first fault.

@@ -1,20 +1,20 @@
 -- What each question is told out of the fields of a sound image.
-use denote.Ref.{Bor}
-use Rattle.std.proofs.Common.{◌≡◌, ℕ, ◌+◌, ◌-◌, ◌/◌, ◌%◌, ◌<◌, ◌≤◌, Bool, true, false, cond, ◌&&◌, ltb, List, length, get_or, is_some, IfSome, Some, None, Option, sym, refl, ap, ◌∙◌, subst, arith}
+use Rattle.std.proofs.Common.{◌≡◌, ℕ, ◌+◌, ◌-◌, ◌/◌, ◌%◌, ◌<◌, ◌≤◌, Bool, true, false, cond, ◌&&◌, ltb, List, length, get_or, drop, Some, None, sym, refl, ap, ◌∙◌, subst, arith}
 use Rattle.std.specs.List.{slice_get}
 use Rattle.std.specs.Bool.{then_some}
-use Rattle.std.specs.Option.{option_copied, option_map}
+use Rattle.std.specs.Option.{option_map}
+use Rattle.std.proofs.lemmas.List.{get_or-take, get_or-drop}
 use Rattle.std.proofs.lemmas.Option.{slice_get-get_or, slice_get_past}
 use Rattle.std.proofs.lemmas.Bool.{ltb-true, ltb-false, and_parts}
 use Rattle.view.specs.Grammar.{listing, image_function, image_meaning, sequence, symbol_of}
-use Rattle.view.specs.Layout.{functions, words, dimension, arity, argument, spelling, rule_function, first_symbol, symbol_count, rule_dimension, symbol_bits}
+use Rattle.view.specs.Layout.{byte, functions, words, spelled_from, dimension, arity, argument, word_offset, word_length, spelling, rule_function, first_symbol, symbol_count, rule_dimension, symbol_bits}
 use Rattle.grammar.proofs.Optional.{none_some}
 use Rattle.grammar.specs.Questions.{arguments_answer, at, rule_at, sequence_at, word_byte_answer, sequence_answer, sequence_length_answer, symbol_answer}
 use Rattle.image.specs.Lookups.{LookedUp, entry_of}
 use Rattle.image.specs.declared.lookup.Lookup.{Lookup}
 use Rattle.image.specs.declared.lookup.Lookup.TheVariants.{OutOfRange, Missing, Entry}
 use Rattle.soundness.proofs.Asking.{arguments_known, listing_past}
-use Rattle.soundness.proofs.Lawfulness.{symbols_inside}
+use Rattle.soundness.proofs.Lawfulness.{word_long, symbols_inside}
 use Rattle.soundness.proofs.Listings.{listing_length, listing_nth}
 use Rattle.soundness.proofs.Sound.{Sound}
 
@@ -35,11 +35,6 @@ module _ (b : List ℕ) where
   pub words_told : words b ≡ length (image_meaning b).words
   words_told = sym (listing_length (spelling b) (words b))
 
--- a copy of what `get` reads
-pub copied_item : (xs : List ℕ) (i : ℕ) (o : Option (Bor ℕ)) → is_some o ≡ ltb i (length xs) → IfSome o (λ x. x.now ≡ get_or xs i x.now) → option_copied o ≡ slice_get xs i
-copied_item xs i None there read = sym (slice_get_past xs i (ltb-false i (length xs) (sym there)))
-copied_item xs i (Some x) there read = ap Some read ∙ sym (slice_get-get_or xs i x.now (ltb-true i (length xs) (sym there)))
-
 -- what is told of a number below n, where it is h of f at it, is what is asked of a list of n
 pub told_below : {A B : Type 0} (n i : ℕ) (f : ℕ → A) (h : A → B) (x : B) → (i < n → x ≡ h (f i)) → then_some (ltb i n) x ≡ option_map h (slice_get (listing n f) i)
 told_below n i f h x says = by (ltb i n) refl
@@ -56,9 +51,6 @@ module _ (b : List ℕ) where
   pub word_byte_none : (w i : ℕ) → words b ≤ w → None ≡ word_byte_answer (image_meaning b) w i
   word_byte_none w i past = sym (ap (λ o. at o i) (listing_past (spelling b) (words b) w past))
 
-  pub word_byte_told : (w i : ℕ) → w < words b → slice_get (spelling b w) i ≡ word_byte_answer (image_meaning b) w i
-  word_byte_told w i lt = sym (ap (λ o. at o i) (listing_nth (spelling b) (words b) w lt))
-
   -- a rule that has no entry has no sequences
   pub no_entry : (f : ℕ) (forms : List ℕ) (l : Lookup) → LookedUp b f forms l → None ≡ entry_of l → (k : ℕ) → None ≡ sequence_answer (image_meaning b) f forms k
   no_entry f forms OutOfRange found e k = sym (ap (λ o. sequence_at (rule_at (image_meaning b) f o) k) found)
@@ -71,6 +63,18 @@ module _ (b : List ℕ) where
   its_entry f forms (Entry j) found i e = let same : j ≡ i = cc in subst (λ k. LookedUp b f forms (Entry k)) same found
 
 module _ (b : List ℕ) (s : Sound b) where
+  word_bytes : (w i : ℕ) → w < words b → word_byte_answer (image_meaning b) w i ≡ slice_get (spelling b w) i
+  word_bytes w i lt = ap (λ o. at o i) (listing_nth (spelling b) (words b) w lt)
+
+  pub word_byte_past : (w i : ℕ) → w < words b → word_length b w ≤ i → None ≡ word_byte_answer (image_meaning b) w i
+  word_byte_past w i lt past = sym (word_bytes w i lt ∙ slice_get_past (spelling b w) i (omega (arith, word_long b s w lt)))
+
+  pub word_byte_told : (w i : ℕ) → w < words b → i < word_length b w → Some (byte b (spelled_from b + word_offset b w + i)) ≡ word_byte_answer (image_meaning b) w i
+  word_byte_told w i lt il =
+      let from = spelled_from b + word_offset b w in
+      let read : get_or (spelling b w) i 0 ≡ byte b (from + i) = get_or-take (word_length b w) (drop from b) i 0 il ∙ get_or-drop from b i 0 in
+      sym (word_bytes w i lt ∙ slice_get-get_or (spelling b w) i 0 (omega (arith, word_long b s w lt)) ∙ ap Some read)
+
   -- a question on a rule that has an entry
   module _ (f : ℕ) (forms : List ℕ) (i : ℕ) (found : LookedUp b f forms (Entry i)) where
     sequences : (k : ℕ) → sequence_answer (image_meaning b) f forms k ≡ slice_get (listing (rule_dimension b i) (sequence b i)) k

@@ -4,7 +4,8 @@ ghost use Rattle.linearizer.specs.Says.{SaysCode};
 use crate::measured::MeasuredTree;
 use fault::kinds::SayFault;
 use grammar::language::Language;
-use measure::scan::measure;
+use measure::scan::measure_into;
+use measure::table::MeasureTable;
 use tree::code::TreeCode;
 
 // Writes the text of the tree in the language from the start place of the page on, and answers how long it is. Refused, and the page left as it
@@ -17,7 +18,8 @@ pub fn say<L: Language>(
 ) -> Result<usize, SayFault>
     ensures { SaysCode (L.meaning language.now) tree.now page.old start result page.new }
 {
-    let table = measure(tree, language)?;
+    let mut table = MeasureTable::new();
+    measure_into(tree, language, &mut table)?;
     let measured = MeasuredTree {
         tree,
         language,

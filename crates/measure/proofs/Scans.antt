@@ -3,6 +3,8 @@ use Rattle.std.proofs.Common.{◌≡◌, ℕ, zero, suc, ◌+◌, ◌-◌, ◌*�
 use Rattle.std.specs.List.{slice_get}
 use Rattle.std.proofs.lemmas.List.{get_or-set_other, get_or-set_same}
 use Rattle.std.proofs.lemmas.Bool.{cases_lt}
+use Rattle.fault.specs.declared.kinds.SayFault.{SayFault}
+use Rattle.fault.specs.declared.kinds.SayFault.TheVariants.{OtherSignature, Mute, NoRoom}
 use Rattle.grammar.specs.Languages.{FunctionLawful, Lawful, Meaning}
 use Rattle.grammar.specs.Trees.{Tree, Trees, code, codes, depth, deepest, HasCategory, HaveCategories}
 use Rattle.grammar.specs.Trees.Tree.{node}
@@ -19,6 +21,7 @@ use Rattle.measure.specs.declared.kinds.Muteness.{Muteness}
 use Rattle.measure.specs.declared.kinds.NodeMeasure.{NodeMeasure}
 use Rattle.measure.specs.declared.table.MeasureTable.{MeasureTable}
 use Rattle.measure.specs.Measured.{Measured, measured_at, MeasureOf, measures, MeasuredFrom, NodeAt, NodeMeasured}
+use Rattle.measure.specs.Scanned.{MeasuredAs, MeasuredInto}
 use Rattle.measure.specs.Sizes.{SaidAt, unmeasured}
 use Rattle.measure.proofs.Rows.{measure_said}
 use Rattle.grammar.proofs.Nth.{all_nth}
@@ -116,3 +119,9 @@ whole_told m t table n measured is = measure_said m 0 t n (subst (MeasureOf m 0 
 
 pub whole_mute : (m : Meaning) (t : Tree) (k : Muteness) → SaidAt m 0 t (Err k) → FirstMute m t k.node
 whole_mute m t k (i, mute, at) = let same : i ≡ k.node = omega (arith, at) in subst (FirstMute m t) same mute
+
+-- what refuses a lent table refuses the tree
+pub refused_as : (m : Meaning) (tree : TreeCode) (before after : MeasureTable) (fault : SayFault) → MeasuredInto m tree before (Err fault) after → MeasuredAs m tree (Err fault)
+refused_as m tree before after OtherSignature refused = refused.0
+refused_as m tree before after (Mute i) refused = (refused.0, λ t is. (refused.1 t is).0)
+refused_as m tree before after (NoRoom n) refused = refused

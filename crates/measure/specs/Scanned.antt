@@ -21,3 +21,12 @@ MeasuredAs m tree (Err OtherSignature) = tree_signature tree ≡ m.signature →
 MeasuredAs m tree (Err (Mute i)) =
     (tree_signature tree ≡ m.signature) × ((t : Tree) → IsTree m.signature (bytes_of tree) t → FirstMute m t i)
 MeasuredAs m tree (Err (NoRoom n)) = ⊥
+
+-- the same of a table that was lent: what is then in it, a mute node or not; and where nothing was measured it is as it was
+abbrev pub MeasuredInto : Meaning → TreeCode → MeasureTable → Result (Unit {0}) SayFault → MeasureTable → Type 0
+MeasuredInto m tree before (Ok done) after = MeasuredAs m tree (Ok after)
+MeasuredInto m tree before (Err OtherSignature) after = (tree_signature tree ≡ m.signature → ⊥) × (after ≡ before)
+MeasuredInto m tree before (Err (Mute i)) after =
+    (tree_signature tree ≡ m.signature)
+    × ((t : Tree) → IsTree m.signature (bytes_of tree) t → FirstMute m t i × Measured m t after)
+MeasuredInto m tree before (Err (NoRoom n)) after = ⊥

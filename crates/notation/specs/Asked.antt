@@ -183,6 +183,12 @@ module _ (t : SignatureTable) (f : ℕ) (forms : List ℕ) where
         by true = refl
         by false = refl
 
+    -- forms that are all 0 are in range, and have the rule
+    pub rule_at_zeros : length forms ≡ 3 → true ≡ all_zero forms → rule_answer (notation (signature_of t)) f forms ≡ Some (Form 0)
+    rule_at_zeros long zeros =
+        rule_inside true zeros
+        (sym (zero_in_range (length (argument_list function.arguments)) forms (omega (arith, long, at_most_three function.arguments)) (sym zeros)))
+
     pub sequence_told : (k : ℕ) (b z : Bool) → z ≡ all_zero forms → (z && k == 0) ≡ b → length forms ≡ 3 → sequence_answer (notation (signature_of t)) f forms k ≡ cond b (Some (written (length (signature_of t).functions) f (argument_list function.arguments))) None
     sequence_told k b z zeros test long =
         let few = at_most_three function.arguments in

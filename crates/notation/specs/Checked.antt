@@ -1,20 +1,14 @@
 -- The test of a signature decides its law, function by function.
-use Rattle.std.specs.Prelude.{◌≡◌, ℕ, zero, suc, ◌+◌, ◌<◌, ◌≤◌, ◌&&◌, List, [], ◌∷◌, map, length, drop, Some, None, Option, Decides, ◌≢◌, nat_le, nat_lt, refl}
-use Rattle.std.proofs.Common.{sym, ap, ◌∙◌, add-one, arith}
-use Rattle.std.specs.List.{slice_get, list_all, range_with_len}
-use Rattle.std.proofs.lemmas.List.{drop_all, length-map}
-use Rattle.std.specs.Option.{option_map}
-use Rattle.std.proofs.lemmas.Option.{slice_get-get_or}
+use Rattle.std.specs.Prelude.{◌≡◌, ℕ, ◌<◌, ◌≤◌, ◌&&◌, List, [], ◌∷◌, map, length, Decides, nat_le, nat_lt, refl}
+use Rattle.std.proofs.Common.{ap}
+use Rattle.std.specs.List.{list_all}
 use Rattle.std.proofs.lemmas.Bool.{leb-true, le-leb}
 use Rattle.std.proofs.lemmas.Bool.Decides.{Decides-and, Decides-ltb, Decides-like}
 use Rattle.std.proofs.ByRecursion.{Decides-by_and}
-use Rattle.grammar.specs.declared.signature.Arguments.TheVariants.{Zero}
 use Rattle.grammar.specs.declared.signature.FunctionType.{FunctionType}
-use Rattle.grammar.specs.declared.signature.SignatureTable.{SignatureTable}
 use Rattle.grammar.specs.Languages.{FunctionLawful, SignatureLawful}
 use Rattle.grammar.specs.Signatures.{Function, Signature}
-use Rattle.grammar.specs.Tables.{typed, listed}
-use Rattle.grammar.proofs.Nth.{nth_map, drop_nth}
+use Rattle.grammar.specs.Tables.{typed}
 use Rattle.notation.specs.Checks.{all_below, function_fits, functions_fit, is_lawful}
 
 decides_leb : (a b : ℕ) → Decides (nat_le a b) (a ≤ b)

@@ -94,12 +94,13 @@ impl Language for Notation {
 
     fn rule(&self, key: RuleKey) -> Option<RuleForm> {
         let function = self.signature.function(key.function)?;
-        if !are_forms(function.arguments.arity(), &key.forms) {
-            None
-        } else if zero_forms(key.forms) {
+        // Forms that are all 0 are in range. A notation's trees have no others, so these are tested first.
+        if zero_forms(key.forms) {
             Some(RuleForm::Form(0))
-        } else {
+        } else if are_forms(function.arguments.arity(), &key.forms) {
             Some(RuleForm::Missing)
+        } else {
+            None
         }
     }
 

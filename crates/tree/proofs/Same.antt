@@ -55,3 +55,12 @@ tables_decide {test} decides a b r told = (
   where
     all : Decides (pointwise test (listed a) (listed b)) (listed a ≡ listed b)
     all = slice_eq-Decides decides (listed a) (listed b) (pointwise test (listed a) (listed b)) refl
+
+-- where the counts and the start categories are the same, the test of the functions decides
+pub functions_decide : {test : FunctionType → FunctionType → Bool} → ((f g : FunctionType) → Decides (test f g) (f ≡ g)) → (a b : SignatureTable) → a.categories ≡ b.categories → a.start ≡ b.start → (fs gs : List FunctionType) → fs ≡ listed a → gs ≡ listed b → (r : Bool) → r ≡ pointwise test fs gs → Decides r (signature_of a ≡ signature_of b)
+functions_decide {test} decides a b counts starts fs gs first second r told =
+    tables_decide decides a b r
+    (told
+    ∙ ap (λ hs. pointwise test hs gs) first
+    ∙ ap (pointwise test (listed a)) second
+    ∙ sym (ap (λ t. t && (eqb a.start b.start && pointwise test (listed a) (listed b))) (eq-eqb _ _ counts) ∙ ap (λ t. t && pointwise test (listed a) (listed b)) (eq-eqb _ _ starts)))

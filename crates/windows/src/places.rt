@@ -1,13 +1,19 @@
-// A string of words that is being put together, as places of a phrase that it holds.
+// A string of words that is being put together, as places of a phrase; and such a string with the phrase that it is put together of.
 use phrase::words::{MOST_WORDS, Phrase};
 use tables::Table;
 
 mod adding;
 mod finding;
 
-// The string is the words at these places of the phrase, from left to right.
+// The string is the words at these places, from left to right. Each call says of which phrase.
 #[derive(Clone, Copy)]
-pub struct Places<'a> {
-    pub(crate) phrase: &'a Phrase<'a>,
+pub struct Places {
     at: Table<u8, MOST_WORDS>,
+}
+
+// The same with the phrase, of which it then is throughout.
+#[derive(Clone, Copy)]
+pub struct PhrasePlaces<'a> {
+    pub(crate) phrase: &'a Phrase<'a>,
+    places: Places,
 }

@@ -6,32 +6,32 @@ ghost use Rattle.congruence.specs.NodeItems.{IsWindowOf, sequence_string, symbol
 ghost use Rattle.measure.specs.Sums.{or_no_symbols};
 ghost use Rattle.phrase.specs.Spelled.{words_of};
 ghost use Rattle.windows.specs.Sequences.{argument_windows, Named};
-ghost use Rattle.windows.specs.Strings.{Added, phrase_of};
+ghost use Rattle.windows.specs.Strings.{AddedTo, phrase_of};
 
-use crate::places::Places;
+use crate::places::PhrasePlaces;
 use grammar::language::Language;
 use grammar::symbol::{RuleKey, Symbol, Window};
 use phrase::words::Phrase;
 
 // A word of the language, by its number; nothing if it is not in the phrase, or the string would be longer than the phrase.
-fn push_word<L: Language>(places: &mut Places, language: &L, word: u16) -> Option<()>
+fn push_word<L: Language>(places: &mut PhrasePlaces, language: &L, word: u16) -> Option<()>
     requires { word < length (L.meaning language.now).words }
     ensures kept { places.new.phrase ≡ places.old.phrase }
-    ensures added { Added places.old (Some (slice_index_or (L.meaning language.now).words word [] ∷ [])) result places.new }
+    ensures added { AddedTo places.old (Some (slice_index_or (L.meaning language.now).words word [] ∷ [])) result places.new }
 {
     places.push(places.phrase.place_of(language, word)?)
 }
 
 // What a symbol puts down; nothing if that does not occur, or the string would be longer than the phrase.
 fn push_symbol<L: Language>(
-    places: &mut Places,
+    places: &mut PhrasePlaces,
     language: &L,
     arguments: &[[Option<Window>; 4]; 3],
     symbol: Symbol,
 ) -> Option<()>
     requires { Named (L.meaning language.now) symbol }
     ensures kept { places.new.phrase ≡ places.old.phrase }
-    ensures added { (items : List Item) → arguments.now ≡ argument_windows items → Added places.old (symbol_string (L.meaning language.now) (phrase_of places.old) items symbol) result places.new }
+    ensures added { (items : List Item) → arguments.now ≡ argument_windows items → AddedTo places.old (symbol_string (L.meaning language.now) (phrase_of places.old) items symbol) result places.new }
 {
     // `as`: argument and constituent are indices here, and nothing else is made of them.
     match symbol {
@@ -53,12 +53,15 @@ pub fn sequence_window<L: Language>(
 ) -> Option<Window>
     ensures { (items : List Item) → arguments.now ≡ argument_windows items → IsWindowOf (words_of phrase.now) (sequence_string (L.meaning language.now) (words_of phrase.now) items (or_no_symbols (sequence_answer (L.meaning language.now) key.function key.forms constituent))) result }
 {
-    let mut places = Places::new(phrase);
+    let mut places = PhrasePlaces::new(phrase);
     if let Some(count) = language.sequence_length(key, constituent) {
         // By number, as a language is asked: no slice of its symbols can be lent.
         for index in 0..count {
             if let Some(symbol) = language.symbol(key, constituent, index) {
-                push_symbol(&mut places, language, arguments, symbol)?;
+                // The answer is written out, so that an edit can change it and leave all else.
+                let Some(()) = push_symbol(&mut places, language, arguments, symbol) else {
+                    return None;
+                };
             }
         }
     }

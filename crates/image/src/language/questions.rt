@@ -72,11 +72,15 @@ impl Language for ImageLanguage {
     }
 
     fn word_byte(&self, word: u16, index: u8) -> Option<u8> {
-        let view = self.view();
-        if word >= view.words() {
+        let image = self.image();
+        if word >= image.view.words() {
             return None;
         }
-        view.spelling(word).get(usize::from(index)).copied()
+        // A test before the read: the one byte is read where it stands, which takes less time than to lend the spelling.
+        if index >= image.view.word_length(word) {
+            return None;
+        }
+        Some(image.view.spelled_byte(word, index))
     }
 
     fn rule(&self, key: RuleKey) -> Option<RuleForm> {

@@ -5,7 +5,8 @@ ghost use Rattle.linearizer.specs.Texts.{TextTold};
 use crate::measured::MeasuredTree;
 use crate::text::TextFault;
 use grammar::language::Language;
-use measure::scan::measure;
+use measure::scan::measure_into;
+use measure::table::MeasureTable;
 use std::alloc::Global;
 use tree::code::TreeCode;
 
@@ -17,7 +18,8 @@ pub fn text_of<L: Language>(
 ) -> Result<Vec<u8>, TextFault>
     ensures { TextTold vec_items (L.meaning language.now) tree.now result }
 {
-    let table = measure(tree, language)?;
+    let mut table = MeasureTable::new();
+    measure_into(tree, language, &mut table)?;
     let measured = MeasuredTree {
         tree,
         language,

@@ -20,7 +20,7 @@ fn unused() -> NodeMeasure
 
 impl MeasureTable {
     // A table in which nothing is measured.
-    pub(crate) fn new() -> MeasureTable
+    pub fn new() -> MeasureTable
         ensures { measures result ≡ replicate 364 unmeasured }
     {
         MeasureTable {

@@ -53,9 +53,10 @@ impl<'a> PhraseReader<'a> {
         let phrase = self.phrase;
         let start = self.place;
         let words = self.words;
-        for (length, byte) in phrase[start..].iter().enumerate() {
-            let end = start + length;
-            match byte_kind(*byte) {
+        // By the place, at which a fault is told: over `iter().enumerate()` the same takes a quarter more time.
+        for end in start..phrase.len() {
+            let length = end - start;
+            match byte_kind(phrase[end]) {
                 ByteKind::Letter => {
                     if length == 0 && words >= MOST_WORDS {
                         return Err(PhraseFault::TooManyWords { byte: end });

@@ -9,7 +9,7 @@ use Rattle.measure.proofs.scan.scan.Goals as goal
 pub loop-place-init : goal.loop-place-init
 loop-place-init g c t is =
     let m = g.L.Language.meaning c.args.language.now in
-    subst (λ k. MeasuredFrom m t k c.new-table.result) (sym c.len-place.ensures) (measured_none m (bytes_of c.args.tree.now) t is c.new-table.result)
+    subst (λ k. MeasuredFrom m t k c.args.table.now) (sym c.len-place.ensures) (measured_none m (bytes_of c.args.tree.now) t is c.args.table.now)
 
 pub node_at-requires : goal.node_at-requires
 node_at-requires g c =

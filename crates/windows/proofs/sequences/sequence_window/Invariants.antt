@@ -6,10 +6,10 @@ use Rattle.congruence.specs.NodeItems.{sequence_string}
 use Rattle.measure.specs.Sums.{or_no_symbols}
 use Rattle.phrase.specs.Spelled.{words_of}
 use Rattle.windows.specs.Sequences.{argument_windows}
-use Rattle.windows.specs.Strings.{string_of}
+use Rattle.windows.specs.Strings.{own_string}
 use Rattle.windows.proofs.sequences.sequence_window.Given as goal
 
 abbrev pub invariant-loop-index : goal.invariant-loop-index
 invariant-loop-index g l =
     (l.places.phrase.now ≡ l.fn.phrase)
-    × ((items : List Item) → l.arguments ≡ argument_windows items → string_of l.places ≡ sequence_string (g.L.Language.meaning l.language) (words_of l.fn.phrase) items (take l.index (or_no_symbols (sequence_answer (g.L.Language.meaning l.language) l.key.function l.key.forms l.constituent))))
+    × ((items : List Item) → l.arguments ≡ argument_windows items → own_string l.places ≡ sequence_string (g.L.Language.meaning l.language) (words_of l.fn.phrase) items (take l.index (or_no_symbols (sequence_answer (g.L.Language.meaning l.language) l.key.function l.key.forms l.constituent))))

@@ -1,14 +1,15 @@
 -- The first place from which the phrase has the words of the string, or none.
 use Rattle.std.proofs.Common.{◌+◌, Some, None, rules, tests, refl, arith}
 use Rattle.std.proofs.lemmas.Iterator.{first_from_find}
-use Rattle.windows.specs.Strings.{SameFrom, phrase_of, places_of}
+use Rattle.phrase.specs.Spelled.{words_of}
+use Rattle.windows.specs.Strings.{SameFrom, places_of}
 use Rattle.windows.proofs.Inclusive.{YieldsList-from_inclusive, first_number}
 use Rattle.windows.proofs.Standing.{first_window, no_window}
 use Rattle.windows.proofs.places.Places.find.Goals as goal
 
 pub returns-in_err-start : goal.returns-in_err-start
 returns-in_err-start c =
-    let phrase = phrase_of c.args.self.now in
+    let phrase = words_of c.args.phrase.now in
     let is = places_of c.args.self.now in
     let n = c.new.result.end in
     let none = first_number (SameFrom phrase is) (λ k. SameFrom phrase is k → ⊥) (n + 1) None
@@ -17,7 +18,7 @@ returns-in_err-start c =
 
 pub returns : goal.returns
 returns c =
-    let phrase = phrase_of c.args.self.now in
+    let phrase = words_of c.args.phrase.now in
     let is = places_of c.args.self.now in
     let i = c.in_ok-start.start in
     let n = c.new.result.end in
