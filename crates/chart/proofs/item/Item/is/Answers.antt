@@ -1,13 +1,10 @@
--- Two items are the same when their fields are.
-use Rattle.std.proofs.Common.{sym, ◌∙◌}
+-- Two items are the same when their parts are.
+use Rattle.std.proofs.Common.{None, sym, ◌∙◌, refl, arith, rules, tests}
 use Rattle.std.proofs.lemmas.Bool.{true≢false}
-use Rattle.chart.proofs.Holding.{item_decides}
+use Rattle.chart.proofs.Holding.{four, parts_decide}
 use Rattle.chart.proofs.item.Item.is.Goals as goal
 
 pub returns : goal.returns
 returns c =
-    let d = item_decides c.args.self.now c.args.other.now in
-    record {
-      same = λ yes. d.0 (sym c.eq.ensures ∙ yes);
-      other = λ no e. true≢false (sym (d.1 e) ∙ sym c.eq.ensures ∙ no);
-    }
+    let d = parts_decide c.args.self.now c.args.other.now _ _ _ c.eq.result c.eq.ensures refl refl (four _ c.args.other.now.windows None (omega arith) (omega arith) refl refl refl refl) in
+    record { same = d.0; other = λ no e. true≢false (sym (d.1 e) ∙ no) }
