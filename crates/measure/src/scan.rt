@@ -25,8 +25,8 @@ fn scan<L: Language>(tree: &TreeCode, language: &L, table: &mut MeasureTable)
     }
 }
 
-// The measures of the tree's nodes in the language, put into a table; refused where the language has another signature, and the table left as it is, or
-// where a node is mute. The table is lent, since one that is answered is copied on its way.
+// The measures of the tree's nodes in the language, put into a table; refused where a node is mute, with the measures in the table all the same, or where the
+// language has another signature, and the table left as it is. The table is lent, since one that is answered is copied on its way.
 pub fn measure_into<L: Language>(
     tree: &TreeCode,
     language: &L,
@@ -42,7 +42,7 @@ pub fn measure_into<L: Language>(
     Ok(())
 }
 
-// The measures of the tree's nodes in the language, in a table of their own; refused as they are.
+// The measures of the tree's nodes in the language, in a table of their own; refused where `measure_into` refuses.
 pub fn measure<L: Language>(tree: &TreeCode, language: &L) -> Result<MeasureTable, SayFault>
     ensures { MeasuredAs (L.meaning language.now) tree.now result }
 {

@@ -5,7 +5,7 @@ ghost use Rattle.grammar.specs.Tables.{signature_of};
 use grammar::signature::SignatureTable;
 
 // Whether two signatures are the same: categories, start category and functions. It is what `==` derives, written out, so that an edit can
-// change what is compared; and with what it means of signatures said in a contract.
+// change what is compared. The contract says what it means of signatures.
 pub fn same_signature(first: &SignatureTable, second: &SignatureTable) -> bool
     ensures same { result ≡ true → signature_of first.now ≡ signature_of second.now }
     ensures other { result ≡ false → signature_of first.now ≢ signature_of second.now }

@@ -11,7 +11,7 @@ pub struct Places {
     at: Table<u8, MOST_WORDS>,
 }
 
-// The same with the phrase, of which it then is throughout.
+// Such a string with its phrase: all its places are of that phrase.
 #[derive(Clone, Copy)]
 pub struct PhrasePlaces<'a> {
     pub(crate) phrase: &'a Phrase<'a>,

@@ -53,7 +53,7 @@ impl<'a> PhraseReader<'a> {
         let phrase = self.phrase;
         let start = self.place;
         let words = self.words;
-        // By the place, at which a fault is told: over `iter().enumerate()` the same takes a quarter more time.
+        // By the place, at which a fault is told: over `iter().enumerate()` the same takes more instructions.
         for end in start..phrase.len() {
             let length = end - start;
             match byte_kind(phrase[end]) {
